@@ -1,6 +1,12 @@
+pub mod Bits
 pub mod Cdf
+pub mod Codes
 pub mod Eighths
 pub mod Interval
+pub mod Laws
+pub mod Paths
 pub mod Position
 pub mod Reading
 pub mod Syntax
+pub mod WholeBytes
+pub mod Window

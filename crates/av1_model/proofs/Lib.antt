@@ -1,0 +1,25 @@
+pub mod Adapting
+pub mod BitsBytes
+pub mod BitsNumbers
+pub mod BitsSigned
+pub mod Bytes
+pub mod Cdfs
+pub mod CodesDigits
+pub mod CodesLeb128
+pub mod CodesPrefix
+pub mod CodesQuniform
+pub mod CodesRecenter
+pub mod CodesSubexp
+pub mod Costs
+pub mod Encoded
+pub mod Final
+pub mod Numbers
+pub mod Paths
+pub mod Positions
+pub mod ReadBack
+mod Rows
+pub mod Symbols
+pub mod Tokens
+pub mod TreeLaws
+pub mod WholeBytes
+pub mod Window
