@@ -1,0 +1,9 @@
+pub mod BlockSizes
+pub mod BlockTables
+pub mod Filling
+pub mod Numbered
+pub mod Numbers
+pub mod Offsets
+pub mod TxSizes
+pub mod TxTables
+pub mod Vectors
