@@ -1,0 +1,4 @@
+pub mod Moving
+pub mod Outcomes
+pub mod Signed
+pub mod Writing
