@@ -1,0 +1,3 @@
+pub mod Encoder
+pub mod EncoderLaw
+pub mod Writing

@@ -1,0 +1,91 @@
+// An encoder's entries, each a byte and a carry: they leave the window, and their carries are summed at the end.
+ghost use Rattle.std.specs.Prelude.{◌≡◌, ◌+◌, ◌-◌, ◌*◌, ◌/◌, ◌%◌, ◌^◌, ◌<◌, ◌≤◌, ◌++◌, ◌∷◌, [], IfOk, OnOk, OnErr, IsOk, All, length, vec_len, vec_capacity};
+ghost use Rattle.std.specs.Int.{bytes_high_first};
+ghost use Rattle.std.specs.Int.Digits.{number_from_digits};
+ghost use Rattle.av1_model.specs.Interval.{final_bytes};
+ghost use Rattle.av1_model.specs.Window.{interval_of_window};
+ghost use Rattle.av1_ec.specs.Encoder.{HasRoom};
+
+use av1_geometry::OutOfMemory;
+use std::alloc::Global;
+
+// Lets entries leave the window until it has room for `d` more bits; what is left of the low end, and its new weight.
+#[inline(always)]
+pub(crate) fn make_room(
+    precarry: &mut Vec<u16>,
+    low: u32,
+    weight: u32,
+    d: u32,
+) -> Result<(u32, u32), OutOfMemory>
+    requires least { 15 ≤ weight }
+    requires most { weight ≤ 23 }
+    requires bits { d ≤ 13 }
+    requires low { low < 2 ^ (weight + 1) }
+    requires carries { All (λ e. e < 512) precarry.old.items }
+    ensures ok { IfOk result (λ r. HasRoom precarry.old.items precarry.new.items low weight d r.0 r.1) }
+    ensures err { OnErr result (precarry.new.items ≡ precarry.old.items) }
+    ensures room { vec_len precarry.old + 2 ≤ vec_capacity precarry.old → IsOk result }
+    ensures entries { vec_len precarry.new ≤ vec_len precarry.old + 2 }
+    ensures capacity { vec_capacity precarry.old ≤ vec_capacity precarry.new }
+{
+    if weight + d < 24 {
+        return Ok((low, weight));
+    }
+    precarry.reserve(2)?;
+    if weight + d < 32 {
+        return Ok(leave(precarry, low, weight));
+    }
+    let (low, weight) = leave(precarry, low, weight);
+    Ok(leave(precarry, low, weight))
+}
+
+// The top of the window leaves it as an entry; what is left of the low end, and its weight.
+#[inline(always)]
+fn leave(precarry: &mut Vec<u16>, low: u32, weight: u32) -> (u32, u32)
+    requires least { 8 ≤ weight }
+    requires most { weight ≤ 23 }
+    requires low { low < 2 ^ (weight + 1) }
+    requires room { vec_len precarry.old < vec_capacity precarry.old }
+    ensures entries { precarry.new.items ≡ precarry.old.items ++ (low / 2 ^ (weight - 8)) ∷ [] }
+    ensures low { result.0 ≡ low % 2 ^ (weight - 8) }
+    ensures weight { result.1 ≡ weight - 8 }
+    ensures capacity { vec_capacity precarry.old ≤ vec_capacity precarry.new }
+{
+    let weight = weight - 8;
+    let _ = precarry.push((low >> weight) as u16);
+    (low & ((1 << weight) - 1), weight)
+}
+
+// Pushes what `done` rounds the window to, as one entry, or as two where the window is 23 bits wide.
+pub(crate) fn push_end(precarry: &mut Vec<u16>, low: u32, weight: u32) -> Result<(), OutOfMemory>
+    requires least { 15 ≤ weight }
+    requires most { weight ≤ 23 }
+    requires low { low + 32768 ≤ 2 ^ (weight + 1) }
+    requires carries { All (λ e. e < 512) precarry.old.items }
+    ensures carries { OnOk result (All (λ e. e < 512) precarry.new.items) }
+    ensures bytes { OnOk result (bytes_high_first (length precarry.new.items) (number_from_digits 256 precarry.new.items) ≡ final_bytes (interval_of_window precarry.old.items low 32768 weight)) }
+{
+    let end = ((low + 0x3fff) >> 15 << 15) + 0x4000;
+    precarry.push((end >> (weight - 8)) as u16)?;
+    if weight == 23 {
+        precarry.push((end % 0x8000 >> 7) as u16)?;
+    }
+    Ok(())
+}
+
+// The bytes of entries, the carry of each added to the one before it.
+pub(crate) fn sum_carries(alloc: Global, precarry: &[u16]) -> Result<Vec<u8>, OutOfMemory>
+    requires { All (λ e. e < 512) precarry.now }
+    ensures { IfOk result (λ v. v.items ≡ bytes_high_first (length precarry.now) (number_from_digits 256 precarry.now)) }
+{
+    let mut offs = precarry.len();
+    let mut out = vec![in alloc; 0u8; offs]?;
+    let mut c = 0u16;
+    while offs > 0 {
+        offs -= 1;
+        c += precarry[offs];
+        out[offs] = (c & 0xff) as u8;
+        c >>= 8;
+    }
+    Ok(out)
+}

@@ -1,0 +1,71 @@
+// A writer's range, its count and its fake bits, over a storage.
+ghost use Rattle.std.specs.Prelude.{◌≡◌, ◌-◌, ◌^◌, ◌≤◌, ◌≤ℤ◌, negsuc};
+ghost use Rattle.av1_model.specs.Interval.{Token, IsToken, top, bottom};
+ghost use Rattle.av1_ec.specs.Encoder.{weight_of};
+
+use crate::storage::Storage;
+
+const EC_PROB_SHIFT: u32 = 6;
+
+const EC_MIN_PROB: u32 = 4;
+
+/// A writer over a storage.
+#[derive(Drop)]
+pub struct WriterBase<S: Storage> {
+    // The width of the interval.
+    pub(crate) rng: u16,
+    // How many bits the window holds, from -9 to -1: a whole entry leaves it where the count would reach 0.
+    pub(crate) cnt: i16,
+    // Fake bits, in 256ths of a bit.
+    pub(crate) fake_bits_frac: u32,
+    // What is stored.
+    pub(crate) s: S,
+    ghost wide: { 32768 ≤ rng },
+    ghost least: { negsuc 8 ≤ℤ cnt },
+    ghost most: { cnt ≤ℤ negsuc 0 },
+    ghost fake: { fake_bits_frac ≤ 2 ^ 28 },
+    ghost window: { ∥ S.GoesWith s rng cnt ∥₁ },
+}
+
+impl<S: Storage> WriterBase<S> {
+    // How far a token's part lies above the low end, and how wide it is.
+    #[inline(always)]
+    pub(crate) fn lr_compute(&self, fl: u16, fh: u16, nms: u16) -> (u32, u16)
+        requires { IsToken record { fl = fl; fh = fh; nms = nms } }
+        ensures above { result.0 ≡ self.now.rng - top self.now.rng record { fl = fl; fh = fh; nms = nms } }
+        ensures width { let t : Token = record { fl = fl; fh = fh; nms = nms } in result.1 ≡ top self.now.rng t - bottom self.now.rng t }
+    {
+        let r = u32::from(self.rng);
+        let u = if fl >= 32768 {
+            r
+        } else {
+            ((r >> 8) * (u32::from(fl) >> EC_PROB_SHIFT) >> (7 - EC_PROB_SHIFT))
+                + EC_MIN_PROB * u32::from(nms)
+        };
+        let v = ((r >> 8) * (u32::from(fh) >> EC_PROB_SHIFT) >> (7 - EC_PROB_SHIFT))
+            + EC_MIN_PROB * u32::from(nms - 1);
+        (r - u, (u - v) as u16)
+    }
+
+    // Where the window begins: at 2 to this power.
+    #[inline(always)]
+    pub(crate) fn weight(&self) -> u32
+        ensures is { result ≡ weight_of self.now.cnt }
+        ensures least { 15 ≤ result }
+        ensures most { result ≤ 23 }
+    {
+        (self.cnt + 24) as u32
+    }
+}
+
+// The count of a window that begins at 2^weight.
+#[inline(always)]
+pub(crate) fn count_of(weight: u32) -> i16
+    requires least { 15 ≤ weight }
+    requires most { weight ≤ 23 }
+    ensures is { weight_of result ≡ weight }
+    ensures least { negsuc 8 ≤ℤ result }
+    ensures most { result ≤ℤ negsuc 0 }
+{
+    weight as i16 - 24
+}
