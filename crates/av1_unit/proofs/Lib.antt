@@ -1,0 +1,7 @@
+mod Grid
+mod Items
+mod Lengths
+mod ReadingBack
+mod Rows
+mod StepLaws
+mod Written

@@ -1,0 +1,17 @@
+-- The tile that a state of the program stands for.
+use Rattle.std.specs.Prelude.{ℕ, ◌+◌, ◌*◌, ◌&&◌, List, Bool, false, nat_lt, if◌then◌else◌, slice_index_or}
+use Rattle.av1_unit.specs.declared.tile.TileState.{TileState}
+use Rattle.av1_unit.specs.Tile.{Tile}
+
+-- the flag at a place of a grid that stands row by row
+abbrev pub flag_at : ℕ → ℕ → List Bool → ℕ → ℕ → Bool
+flag_at cols rows flags x y = if nat_lt x cols && nat_lt y rows then slice_index_or flags (y * cols + x) false else false
+
+abbrev pub tile_of : TileState → Tile
+tile_of s = record {
+  cols = s.cols;
+  rows = s.rows;
+  skip_cdfs = s.skip_cdfs;
+  skip = flag_at s.cols s.rows s.skips.items;
+  current = s.current;
+}

@@ -1,0 +1,25 @@
+// Laws of steps and of lists of steps. Each function is a theorem: it takes nothing and does nothing.
+ghost use Rattle.std.specs.Prelude.{◌≡◌, ℕ, List, None, Some, map};
+ghost use Rattle.av1_model.specs.Interval.{final_bytes};
+ghost use Rattle.av1_model.specs.Syntax.{Leads};
+ghost use Rattle.av1_unit.specs.declared.unit.TileStep.{TileStep};
+ghost use Rattle.av1_unit.specs.Tile.{Tile};
+ghost use Rattle.av1_unit.specs.Step.{question_of, answer_of, first_broken, rules, syntax_of, symbols_of};
+ghost use Rattle.av1_unit.specs.Script.{after_all, first_broken_step, read_steps};
+ghost use Rattle.av1_unit.specs.Headline.{fresh_coding};
+
+/// For each step that breaks no rule there is exactly one list of symbols that leads a reader to its answer.
+pub fn law_of_steps()
+    ensures leads { (step : TileStep) (t : Tile) → first_broken (rules (question_of step) t) ≡ None →
+        Leads (syntax_of (question_of step) t) (symbols_of step) (answer_of step) }
+    ensures one_path { (step : TileStep) (t : Tile) (symbols : List ℕ) → first_broken (rules (question_of step) t) ≡ None →
+        Leads (syntax_of (question_of step) t) symbols (answer_of step) → symbols ≡ symbols_of step }
+{}
+
+/// A reader that is led by the questions of steps that break no rule takes exactly their answers from the final bytes of
+/// the interval where coding them ends, and comes to exactly that interval and tile.
+pub fn law_of_reading_steps()
+    ensures { (cols rows : ℕ) (steps : List TileStep) → let at = fresh_coding cols rows in
+        first_broken_step 0 at steps ≡ None →
+        read_steps (map question_of steps) (final_bytes (after_all at steps).interval) at ≡ Some (map answer_of steps, after_all at steps) }
+{}

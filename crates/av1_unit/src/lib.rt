@@ -1,0 +1,31 @@
+//! From a unit, which says a frame and how its blocks are coded, to the bytes of an AV1 temporal unit.
+//!
+//! A unit is checked, its script is coded step by step into a tile, and headers and tile are framed as OBUs.
+//! Which symbols a step has is said once, by the tree that a reader goes down (`specs/Step.antt`); what is promised
+//! of the bytes is said in `specs/Headline.antt`.
+//!
+//! - `unit`: what is given: a frame, a script of steps
+//! - `write`: `unit_bytes`, `write_unit`
+//! - `coding`: from the items of a script to the bytes of a tile
+//! - `tile`, `area`: the state of a tile, its rules, and one step in it
+//! - `header`, `framing`: the bits of the headers, and the OBUs
+//! - `report`, `error`: what is answered
+//! - `laws`: theorems of steps and of lists of steps
+#![tactic(auto)]
+
+mod area;
+mod coding;
+mod error;
+mod framing;
+mod header;
+mod laws;
+mod report;
+mod tile;
+mod unit;
+mod write;
+
+pub use error::{Place, UnitError};
+pub use laws::{law_of_reading_steps, law_of_steps};
+pub use report::{Report, TileReport, TrialCost};
+pub use unit::{Item, TileScript, TileStep, Unit, Via};
+pub use write::{unit_bytes, write_unit};
