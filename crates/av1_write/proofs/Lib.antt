@@ -1,0 +1,6 @@
+pub mod Fitting
+pub mod Lines
+pub mod Sending
+pub mod Texts
+pub mod Values
+pub mod OneWord

@@ -1,0 +1,30 @@
+-- The text that tells a unit's bytes and its report.
+use Rattle.std.specs.Prelude.{ℕ, Bool, List, ◌++◌, codes, decimal, if◌then◌else◌}
+use Rattle.std.specs.List.{enumerate_from, flat_map}
+use Rattle.hex.specs.Hex.{encode_lower}
+use Rattle.av1_unit.specs.declared.report.TileReport.{TileReport}
+use Rattle.av1_unit.specs.declared.report.TrialCost.{TrialCost}
+use Rattle.av1_unit.specs.Report.{ReportLists}
+
+-- a tile's number, bytes and bits
+unfoldable pub tile_line : ℕ → TileReport → List ℕ
+tile_line number tile = codes "tile " ++ decimal number ++ codes " " ++ decimal tile.bytes ++ codes " " ++ decimal tile.bits ++ codes "\n"
+
+-- what became of a trial
+unfoldable pub trial_end : Bool → List ℕ
+trial_end kept = if kept then codes "kept" else codes "abandoned"
+
+-- a trial's tile, item and eighths of a bit, and what became of it
+unfoldable pub trial_line : TrialCost → List ℕ
+trial_line trial =
+    codes "trial " ++ decimal trial.tile ++ codes " " ++ decimal trial.item ++ codes " " ++ decimal trial.eighths ++ codes " " ++ trial_end trial.kept ++ codes "\n"
+
+abbrev pub tile_lines : List TileReport → List ℕ
+tile_lines tiles = flat_map (λ t. tile_line t.0 t.1) (enumerate_from 0 tiles)
+
+abbrev pub trial_lines : List TrialCost → List ℕ
+trial_lines trials = flat_map trial_line trials
+
+-- the bytes in hex digits, and then a line for each tile and each trial
+abbrev pub unit_text : List ℕ → ReportLists → List ℕ
+unit_text bytes report = encode_lower bytes ++ codes "\n" ++ tile_lines report.tiles ++ trial_lines report.trials

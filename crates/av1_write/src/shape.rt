@@ -1,0 +1,206 @@
+// From JSON to a unit.
+ghost use Rattle.std.specs.Prelude.{◌≡◌, IfOk, IfErr, Some, option_map};
+ghost use Rattle.serde_json.specs.View.{view, items_view};
+ghost use Rattle.av1_write.specs.Shape.{has_members, has_no_chroma, number_at, side_at, sides_of, block_of, skip_of, item_of, items_of, only_item, tile_of, parts_of, unit_of, json_of, shape, Fits};
+ghost use Rattle.av1_write.specs.Cause.{IsCause};
+
+use av1_geometry::{BlockSize, OutOfMemory};
+use av1_unit::{Item, TileScript, TileStep, Unit, Via};
+use serde_json::{Category, Value};
+use std::alloc::Global;
+
+/// The largest side of a frame.
+const MOST_SIDE: usize = 64;
+
+/// The largest number of items in a tile.
+const MOST_ITEMS: usize = 65536;
+
+#[tactic(auto, using(crate::proofs::Values::members_len_is), unfolding(crate::specs::Shape::has_members))]
+fn has_members(value: &Value, count: usize) -> bool
+    ensures { result ≡ has_members count (view value.now) }
+{
+    match value.as_object() {
+        Some(members) => members.len() == count,
+        None => false,
+    }
+}
+
+#[tactic(auto, unfolding(crate::specs::Shape::number_at))]
+fn number(value: &Value, name: &str) -> Option<usize>
+    ensures { result ≡ number_at name.now (view value.now) }
+{
+    usize::try_from(value.get(name)?.as_i64()?).ok()
+}
+
+#[tactic(auto, unfolding(crate::specs::Shape::side_at))]
+fn side(value: &Value, name: &str) -> Option<usize>
+    ensures { result ≡ side_at name.now (view value.now) }
+{
+    let side = number(value, name)?;
+    if side <= MOST_SIDE { Some(side) } else { None }
+}
+
+#[tactic(auto, unfolding(crate::specs::Shape::sides_of))]
+fn sides(frame: &Value) -> Option<(usize, usize)>
+    ensures { result ≡ sides_of (view frame.now) }
+{
+    if !has_members(frame, 2) {
+        return None;
+    }
+    let width = side(frame, "width")?;
+    let height = side(frame, "height")?;
+    Some((width, height))
+}
+
+#[tactic(auto, unfolding(crate::specs::Shape::has_no_chroma))]
+fn has_no_chroma(seq: &Value) -> bool
+    ensures { result ≡ has_no_chroma (view seq.now) }
+{
+    has_members(seq, 1) && number(seq, "chroma_sampling") == Some(3)
+}
+
+#[tactic(auto, unfolding(crate::specs::Shape::block_of))]
+fn block(item: &Value) -> Option<Item>
+    ensures { result ≡ block_of (view item.now) }
+{
+    if !has_members(item, 4) {
+        return None;
+    }
+    let x = number(item, "x")?;
+    let y = number(item, "y")?;
+    let size = BlockSize::from_number(number(item, "size")?)?;
+    Some(Item::Step(TileStep::Block { x, y, size }))
+}
+
+#[tactic(auto, unfolding(crate::specs::Shape::skip_of))]
+fn skip(item: &Value) -> Option<Item>
+    ensures { result ≡ skip_of (view item.now) }
+{
+    if !has_members(item, 2) {
+        return None;
+    }
+    let answer = item.get("a")?.as_bool()?;
+    Some(Item::Step(TileStep::Skip { answer }))
+}
+
+#[tactic(auto, unfolding(crate::specs::Shape::item_of))]
+fn item(item: &Value) -> Option<Item>
+    ensures { result ≡ item_of (view item.now) }
+{
+    match item.get("op")?.as_str()? {
+        "Block" => block(item),
+        "Skip" => skip(item),
+        _ => None,
+    }
+}
+
+#[tactic(auto, using(crate::proofs::Values::only_one, crate::proofs::Values::not_only))]
+fn only(list: &Vec<Value>) -> Option<&Value>
+    ensures { option_map (λ v. view v.now) result ≡ only_item (items_view list.now.items) }
+{
+    if list.len() == 1 {
+        Some(&list[0])
+    } else {
+        None
+    }
+}
+
+#[tactic(auto, using(crate::proofs::Values::items_len_is), unfolding(crate::specs::Shape::tile_of))]
+fn tile(tiles: &Value) -> Option<&Vec<Value>>
+    ensures { option_map (λ v. items_view v.now.items) result ≡ tile_of (view tiles.now) }
+{
+    let items = only(tiles.as_array()?)?.as_array()?;
+    if items.len() <= MOST_ITEMS {
+        Some(items)
+    } else {
+        None
+    }
+}
+
+#[tactic(auto, using(crate::proofs::Values::goes_on, crate::proofs::Values::stops, crate::proofs::Values::ends))]
+fn script(alloc: Global, tile: &Vec<Value>) -> Result<Option<TileScript>, OutOfMemory>
+    ensures { IfOk result (λ found. found ≡ items_of (items_view tile.now.items)) }
+{
+    let mut items = Vec::new(alloc);
+    for value in tile {
+        match item(value) {
+            Some(item) => items.push(item)?,
+            None => return Ok(None),
+        }
+    }
+    Ok(Some(TileScript { items }))
+}
+
+#[tactic(auto, unfolding(crate::specs::Shape::parts_of))]
+fn parts(value: &Value) -> Option<((usize, usize), &Vec<Value>)>
+    ensures { option_map (λ p. (p.0, items_view p.1.now.items)) result ≡ parts_of (view value.now) }
+{
+    if !has_members(value, 3) || !has_no_chroma(value.get("seq")?) {
+        return None;
+    }
+    let sides = sides(value.get("frame")?)?;
+    let tile = tile(value.get("tiles")?)?;
+    Some((sides, tile))
+}
+
+#[tactic(auto, unfolding(crate::specs::Shape::unit_of))]
+fn unit(alloc: Global, value: &Value) -> Result<Option<(Unit, Via)>, OutOfMemory>
+    ensures { IfOk result (λ found. found ≡ unit_of (view value.now)) }
+{
+    let Some(((width, height), tile)) = parts(value) else {
+        return Ok(None);
+    };
+    let Some(script) = script(alloc, tile)? else {
+        return Ok(None);
+    };
+    let unit = Unit {
+        width,
+        height,
+        script,
+    };
+    Ok(Some((unit, Via::Direct)))
+}
+
+/// Why a text gives no unit.
+#[derive(Debug, Drop)]
+pub enum ShapeError {
+    /// It is no JSON text.
+    BadText,
+
+    /// What stands at this path, a JSON pointer, is no part of a unit.
+    BadShape(String),
+
+    /// There was not enough memory.
+    OutOfMemory,
+}
+
+impl From<OutOfMemory> for ShapeError {
+    ghost use Rattle.av1_write.specs.declared.shape.ShapeError.TheVariants.{OutOfMemory as MemoryError};
+
+    ghost from_gives = { λ _ e. e ≡ MemoryError };
+
+    fn from(_: OutOfMemory) -> Self {
+        ShapeError::OutOfMemory
+    }
+}
+
+#[tactic(auto, using(crate::proofs::Texts::is_read, crate::proofs::Texts::is_refused))]
+fn json(alloc: Global, text: &[u8]) -> Result<Value, ShapeError>
+    ensures read { IfOk result (λ v. json_of text.now ≡ Some (view v)) }
+    ensures refused { IfErr result (λ e. IsCause e (shape text.now)) }
+{
+    Value::from_slice(alloc, text).map_err(|error| match error.classify() {
+        Category::Memory => ShapeError::OutOfMemory,
+        _ => ShapeError::BadText,
+    })
+}
+
+/// The unit that a JSON text stands for, as `docs/UNIT_FORMAT.md` describes it, and how it is to be coded.
+pub fn read_unit(alloc: Global, text: &[u8]) -> Result<(Unit, Via), ShapeError>
+    ensures fits { IfOk result (λ found. shape text.now ≡ Fits found) }
+    ensures refused { IfErr result (λ e. IsCause e (shape text.now)) }
+{
+    let value = json(alloc, text)?;
+    let found = unit(alloc, &value)?;
+    found.ok_or(ShapeError::BadShape(String::new(alloc)))
+}
