@@ -108,10 +108,13 @@ impl<'a> PlainReader<'a> {
         } else {
             self.range = cut;
         }
-        while self.range < 32768 && self.shift < 100 {
-            self.range = self.range.wrapping_mul(2);
-            self.low = self.low.wrapping_mul(2);
-            self.shift = self.shift.wrapping_add(1);
+        // 15 doublings bring each range that is not 0 to 32768
+        for _ in 0..15 {
+            if self.range < 32768 {
+                self.range = self.range.wrapping_mul(2);
+                self.low = self.low.wrapping_mul(2);
+                self.shift = self.shift.wrapping_add(1);
+            }
         }
         let rate = 4u32.wrapping_add(u32::from(count >> 4));
         let next = if flag {

@@ -2,8 +2,12 @@
 use crate::reader::PlainReader;
 use av1_bits::MemSink;
 use av1_geometry::{BlockSize, Rule};
-use av1_unit::{Item, Place, TileScript, TileStep, Unit, UnitError, Via, unit_bytes, write_unit};
+use av1_unit::{
+    Item, Place, Report, TileReport, TileScript, TileStep, Unit, UnitError, Via, unit_bytes,
+    write_unit,
+};
 use std::alloc::{AllocError, Global};
+use std::process::Abort;
 use std::test::Fail;
 
 /// The bytes before the tile of an 8x8 frame with a tile of one byte.
@@ -29,6 +33,41 @@ fn unit(alloc: Global, side: usize, items: &[Item]) -> Result<Unit, AllocError> 
     })
 }
 
+/// How many items a script may have.
+const MOST_ITEMS: usize = 65536;
+
+fn written(alloc: Global, unit: &Unit) -> Result<(Vec<u8>, Report), UnitError> {
+    if unit.script.items.len() > MOST_ITEMS {
+        return Err(UnitError::OutOfMemory);
+    }
+    unit_bytes(alloc, unit, Via::Direct)
+}
+
+fn sent(alloc: Global, out: &mut MemSink, unit: &Unit) -> Result<Report, UnitError> {
+    if unit.script.items.len() > MOST_ITEMS {
+        return Err(UnitError::OutOfMemory);
+    }
+    write_unit(alloc, out, unit, Via::Direct)
+}
+
+// A plain reader takes each flag back from the tile at the end of the bytes, and reads as many bits as are told.
+fn reads_back(rt: &impl Abort, unit: &Unit, bytes: &[u8], told: &TileReport) -> Result<(), Fail> {
+    let Some(tile) = bytes.get(bytes.len().saturating_sub(told.bytes as usize)..) else {
+        return Err("a short unit".into());
+    };
+    let mut reader = PlainReader::new(tile);
+    let script = &unit.script;
+    for item in script.items.iter() {
+        let want = match item {
+            Item::Step(TileStep::Skip { answer }) => Some(*answer),
+            _ => None,
+        };
+        assert_eq!(rt; reader.answer(item), want);
+    }
+    assert_eq!(rt; reader.bits(), told.bits);
+    Ok(())
+}
+
 #[test]
 fn worked_units_have_their_bytes_and_reports(rt: HostRuntime) -> Result<(), Fail> {
     let alloc = rt.alloc();
@@ -46,7 +85,7 @@ fn worked_units_have_their_bytes_and_reports(rt: HostRuntime) -> Result<(), Fail
         ),
     ];
     for (unit, tile, bits) in rows.iter() {
-        let Ok((bytes, report)) = unit_bytes(alloc, unit, Via::Direct) else {
+        let Ok((bytes, report)) = written(alloc, unit) else {
             return Err("not written".into());
         };
         let mut want = HEAD.to_vec(alloc)?;
@@ -57,6 +96,7 @@ fn worked_units_have_their_bytes_and_reports(rt: HostRuntime) -> Result<(), Fail
         };
         assert_eq!(rt; (told.bytes, told.bits), (1, *bits));
         assert!(rt; report.trials.is_empty());
+        reads_back(&rt, unit, &bytes, told)?;
     }
     Ok(())
 }
@@ -65,7 +105,7 @@ fn worked_units_have_their_bytes_and_reports(rt: HostRuntime) -> Result<(), Fail
 fn sides_of_64_are_written_in_six_bits(rt: HostRuntime) -> Result<(), Fail> {
     let alloc = rt.alloc();
     let unit = unit(alloc, 64, &[])?;
-    let Ok((bytes, _)) = unit_bytes(alloc, &unit, Via::Direct) else {
+    let Ok((bytes, _)) = written(alloc, &unit) else {
         return Err("not written".into());
     };
     // the temporal delimiter, and the sequence header behind its OBU's header and length
@@ -101,7 +141,7 @@ fn the_first_broken_rule_is_told(rt: HostRuntime) -> Result<(), Fail> {
             place: *place,
             rule: Rule(*rule),
         };
-        match unit_bytes(alloc, unit, Via::Direct) {
+        match written(alloc, unit) {
             Ok(_) => return Err("written".into()),
             Err(error) => assert_eq!(rt; error, want),
         }
@@ -122,24 +162,13 @@ fn a_plain_reader_takes_each_flag_back(rt: HostRuntime) -> Result<(), Fail> {
             items.push(skip(flags >> n & 1 == 1))?;
         }
         let unit = unit(alloc, 8, &items)?;
-        let Ok((bytes, report)) = unit_bytes(alloc, &unit, Via::Direct) else {
+        let Ok((bytes, report)) = written(alloc, &unit) else {
             return Err("not written".into());
         };
         let Some(told) = report.tiles.first() else {
             return Err("no tile".into());
         };
-        let Some(tile) = bytes.get(bytes.len().saturating_sub(told.bytes as usize)..) else {
-            return Err("a short unit".into());
-        };
-        let mut reader = PlainReader::new(tile);
-        for item in items.iter() {
-            let want = match item {
-                Item::Step(TileStep::Skip { answer }) => Some(*answer),
-                _ => None,
-            };
-            assert_eq!(rt; reader.answer(item), want, "in {flags}");
-        }
-        assert_eq!(rt; reader.bits(), told.bits, "in {flags}");
+        reads_back(&rt, &unit, &bytes, told)?;
     }
     Ok(())
 }
@@ -149,14 +178,14 @@ fn a_sink_that_fails_holds_a_beginning(rt: HostRuntime) -> Result<(), Fail> {
     let alloc = rt.alloc();
     let unit = unit(alloc, 8, &[])?;
     let mut out = MemSink::new(alloc, 100, true, vec![in alloc; 3]?)?;
-    match write_unit(alloc, &mut out, &unit, Via::Direct) {
+    match sent(alloc, &mut out, &unit) {
         Ok(_) => return Err("sent".into()),
         Err(error) => assert_eq!(rt; error, UnitError::SinkFault),
     }
     assert_eq!(rt; out.bytes(), [0x12, 0x00].as_slice());
 
     let mut out = MemSink::new(alloc, 100, true, vec![in alloc]?)?;
-    match write_unit(alloc, &mut out, &unit, Via::Direct) {
+    match sent(alloc, &mut out, &unit) {
         Ok(report) => assert_eq!(rt; report.tiles.len(), 1),
         Err(_) => return Err("not sent".into()),
     }
