@@ -1,0 +1,28 @@
+-- The numbers of a context by their CDFs.
+use Rattle.std.specs.Prelude.{ℕ, ◌+◌, ◌-◌, ◌*◌, ◌/◌, List, Bool, ◌&&◌, nat_eq, nat_le, if◌then◌else◌, length, slice_index, map}
+use Rattle.std.specs.List.{range_with_len, slice_range}
+use Rattle.av1_cdf.specs.Layout.{Slot, cell, size_of_context}
+
+-- the numbers of a CDF
+abbrev pub contents : List ℕ → Slot → List ℕ
+contents numbers s = slice_range numbers s.place (s.place + s.len)
+
+-- number i of a CDF of n symbols that are equally likely; the count comes to 0
+abbrev pub even : ℕ → ℕ → ℕ
+even n i = 32768 - 32768 * (i + 1) / n
+
+-- the number at a place where all symbols are equally likely
+abbrev pub uniform_number : ℕ → ℕ
+uniform_number k = let c = cell k in even c.len (k - c.place)
+
+-- the context whose CDFs are all even, and whose padding is 0
+unfoldable pub uniform_numbers : List ℕ
+uniform_numbers = map uniform_number (range_with_len 0 size_of_context)
+
+-- whether a place is the last one of a CDF, which has the count
+abbrev pub is_count : ℕ → Bool
+is_count k = let c = cell k in nat_le 2 c.len && nat_eq (k + 1) (c.place + c.len)
+
+-- a context with 0 for each count
+unfoldable pub with_counts_reset : List ℕ → List ℕ
+with_counts_reset numbers = map (λ k. if is_count k then 0 else slice_index numbers k) (range_with_len 0 (length numbers))

@@ -1,0 +1,24 @@
+// What holds of the layout, and of the contexts that a tile starts with.
+ghost use Rattle.std.specs.Prelude.{◌≡◌, ℕ, ◌+◌, ◌≤◌, ◌<◌, ◌⊎◌, List, None, IsTrue, slice_index};
+ghost use Rattle.av1_model.specs.Cdf.{IsCdf};
+ghost use Rattle.av1_cdf.specs.Layout.{Slot, layout, rises, named, length_in, slot, is_slot, cell};
+ghost use Rattle.av1_cdf.specs.Context.{contents, uniform_numbers};
+ghost use Rattle.av1_cdf.specs.Tables.{first_broken, table_rules, set_at, set_number};
+
+/// The fields follow on one another without a gap up to the end of the context. Each CDF lies within the context, each of
+/// its places belongs to it, and two CDFs that are not the same have no place in common.
+pub fn law_of_layout()
+    ensures without_gaps { IsTrue (rises 0 layout 5528) }
+    ensures within { (s : Slot) → IsTrue (is_slot s.place s.len) → (2 ≤ s.len) × (s.len ≤ 16) × (s.place + s.len ≤ 5528) }
+    ensures own_places { (s : Slot) (k : ℕ) → IsTrue (is_slot s.place s.len) → s.place ≤ k → k < s.place + s.len → cell k ≡ s }
+    ensures lengths { (name indices : List ℕ) → (slot name indices).len ≡ length_in (named name layout).dimensions }
+    ensures apart { (s t : Slot) → IsTrue (is_slot s.place s.len) → IsTrue (is_slot t.place t.len) →
+        (s ≡ t) ⊎ ((s.place + s.len ≤ t.place) ⊎ (t.place + t.len ≤ s.place)) }
+{}
+
+/// In tables that break no rule each CDF of each set is valid, and so is each CDF of the uniform context.
+pub fn law_of_starting()
+    ensures tables { (sets : List (List ℕ)) (quantizer : ℕ) (s : Slot) → first_broken (table_rules sets) ≡ None →
+        IsTrue (is_slot s.place s.len) → IsCdf (contents (set_at sets (set_number quantizer)) s) }
+    ensures uniform { (s : Slot) → IsTrue (is_slot s.place s.len) → IsCdf (contents uniform_numbers s) }
+{}

@@ -1,0 +1,108 @@
+// CDFs of one length, one after another, and the CDF that a place belongs to.
+ghost use Rattle.std.specs.Prelude.{◌≡◌, ◌<◌, ◌≤◌, ◌+◌, ◌*◌, ◌^◌, ◌&&◌, nat_eq, nat_le, IsTrue};
+ghost use Rattle.av1_cdf.specs.Runs.{run_at, has_run, Has, HasOrEnds};
+ghost use Rattle.av1_cdf.specs.Slots.{cell_of};
+
+use crate::cdf_offset::CDFOffset;
+use crate::layout::runs;
+
+/// CDFs of one length, one after another. Padding is a run of lists of one number.
+#[derive(Clone, Copy)]
+pub(crate) struct Run {
+    pub(crate) place: usize,
+    pub(crate) count: usize,
+    pub(crate) len: usize,
+}
+
+/// A CDF of the context, or a number of padding.
+#[derive(Clone, Copy)]
+pub(crate) struct Cell {
+    pub(crate) place: usize,
+    pub(crate) len: usize,
+}
+
+impl Cell {
+    /// Whether the CDF's count stands at a place.
+    pub(crate) fn ends_with(self, k: usize) -> bool
+        requires place { self.place + self.len < 2 ^ 16 }
+        requires k { k < 5528 }
+        ensures { result ≡ (nat_le 2 self.len && nat_eq (k + 1) (self.place + self.len)) }
+    {
+        self.len >= 2 && k + 1 == self.place + self.len
+    }
+}
+
+/// The run with this number.
+#[tactic(auto, using(crate::proofs::Cells::run_fits))]
+fn run_at(run: usize) -> Run
+    requires { run < 72 }
+    ensures is { result ≡ run_at run }
+    ensures within { result.place + result.count * result.len ≤ 5528 }
+    ensures some { 0 < result.len }
+{
+    runs()[run]
+}
+
+/// The run that has a place, from one that has it or ends there.
+pub(crate) fn run_with(run: usize, k: usize) -> usize
+    requires run { HasOrEnds run k }
+    requires k { k < 5528 }
+    ensures { Has result k }
+{
+    let at = run_at(run);
+    if k < at.place + at.count * at.len {
+        run
+    } else {
+        run + 1
+    }
+}
+
+/// The CDF that a place belongs to.
+#[tactic(auto, using(crate::proofs::Cells::cell_of_place))]
+pub(crate) fn cell_in(run: usize, k: usize) -> Cell
+    requires { Has run k }
+    ensures is { result ≡ cell_of k }
+    ensures from { result.place ≤ k }
+    ensures to { k < result.place + result.len }
+    ensures within { result.place + result.len ≤ 5528 }
+{
+    let at = run_at(run);
+    Cell {
+        place: at.place + (k - at.place) / at.len * at.len,
+        len: at.len,
+    }
+}
+
+impl Run {
+    /// The CDF with this number.
+    #[tactic(auto, using(crate::proofs::Cells::slot_of_run, crate::proofs::Cells::place_within))]
+    #[inline(always)]
+    pub(crate) fn cdf(self, number: usize) -> CDFOffset
+        requires run { IsTrue (has_run self) }
+        requires number { number < self.count }
+        ensures place { result.place ≡ self.place + number * self.len }
+        ensures len { result.len ≡ self.len }
+    {
+        CDFOffset::new(self.place + number * self.len, self.len)
+    }
+
+    /// The same run of component 0 or 1 of vectors.
+    #[tactic(auto, using(crate::proofs::Cells::component_run, crate::proofs::Cells::start_within))]
+    #[inline(always)]
+    pub(crate) fn of_component(self, component: usize) -> Run
+        requires component { component < 2 }
+        requires first { IsTrue (has_run self) }
+        requires second { IsTrue (has_run (record self { place = self.place + 56 })) }
+        requires some { 0 < self.count }
+        ensures place { result.place ≡ self.place + 56 * component }
+        ensures count { result.count ≡ self.count }
+        ensures len { result.len ≡ self.len }
+        ensures run { IsTrue (has_run result) }
+    {
+        Run {
+            place: self.place + 56 * component,
+            count: self.count,
+            len: self.len,
+        }
+    }
+}

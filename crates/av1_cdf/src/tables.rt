@@ -1,0 +1,173 @@
+// The tables of numbers that contexts are made of, one for each range of quantizers, and their rules.
+ghost use Rattle.std.specs.Prelude.{◌≡◌, None, ◌≤◌, ◌<◌, ◌+◌, ◌&&◌, ◌||◌, true, nat_eq, [], ◌∷◌, length, nat_le, nat_lt, option_map};
+ghost use Rattle.std.specs.List.{list_any};
+ghost use Rattle.av1_cdf.specs.Slots.{cell_of};
+ghost use Rattle.av1_cdf.specs.Tables.{first_broken, table_rules, set_at, set_number, number_fits, valid_set, is_coefficient, same_at, sets_agree};
+
+use crate::cdf_context::NUMBERS;
+use crate::layout::{
+    ANGLE_DELTA_CDF, COEFF_BASE_CDF, COEFF_BASE_EOB_CDF, COEFF_BR_CDF, DC_SIGN_CDF,
+    DEBLOCK_DELTA_CDF, DRL_CDFS, EOB_EXTRA_CDF, EOB_FLAG_CDF16, EOB_FLAG_CDF32, EOB_FLAG_CDF64,
+    EOB_FLAG_CDF128, EOB_FLAG_CDF256, EOB_FLAG_CDF512, EOB_FLAG_CDF1024, FILTER_INTRA_CDFS,
+    INTER_TX_2_CDF, INTRA_TX_1_CDF, INTRA_TX_2_CDF, LRF_SWITCHABLE_CDF, PARTITION_CDF,
+    SPATIAL_SEGMENTATION_CDFS, TXB_SKIP_CDF, TXFM_PARTITION_CDF,
+};
+use crate::run::{Cell, cell_in, run_with};
+use av1_geometry::Rule;
+use std::marker::Model;
+
+/// The numbers of contexts, as four lists for the quantizers up to 20, 60, 120 and 255.
+#[derive(Drop)]
+pub struct Tables {
+    pub sets: Vec<Vec<u16>>,
+}
+
+impl Model for Tables {
+    ghost use Rattle.std.specs.Prelude.{ℕ, List, map};
+
+    ghost Value = { List (List ℕ) };
+
+    ghost view = { λ t. map (λ v. v.items) t.sets.items };
+}
+
+impl Tables {
+    /// The set for a quantizer.
+    pub(crate) fn set(&self, quantizer: u8) -> &[u16]
+        requires { first_broken (table_rules self.now) ≡ None }
+        ensures is { result.now ≡ set_at self.now (set_number quantizer) }
+        ensures len { length result.now ≡ 5528 }
+    {
+        let number = match quantizer {
+            0..=20 => 0,
+            21..=60 => 1,
+            61..=120 => 2,
+            _ => 3,
+        };
+        &self.sets[number]
+    }
+}
+
+// First place and place past the end of each field that differs by quantizer.
+static COEFFICIENTS: [(usize, usize); 13] = [
+    (TXB_SKIP_CDF.place, TXFM_PARTITION_CDF.place),
+    (DC_SIGN_CDF.place, DRL_CDFS.place),
+    (EOB_EXTRA_CDF.place, FILTER_INTRA_CDFS.place),
+    (EOB_FLAG_CDF16.place, INTRA_TX_2_CDF.place),
+    (EOB_FLAG_CDF32.place, ANGLE_DELTA_CDF.place),
+    (EOB_FLAG_CDF64.place, INTRA_TX_1_CDF.place),
+    (EOB_FLAG_CDF128.place, SPATIAL_SEGMENTATION_CDFS.place),
+    (EOB_FLAG_CDF256.place, EOB_FLAG_CDF512.place),
+    (EOB_FLAG_CDF512.place, PARTITION_CDF.place),
+    (EOB_FLAG_CDF1024.place, INTER_TX_2_CDF.place),
+    (COEFF_BASE_EOB_CDF.place, LRF_SWITCHABLE_CDF.place),
+    (COEFF_BASE_CDF.place, COEFF_BR_CDF.place),
+    (COEFF_BR_CDF.place, DEBLOCK_DELTA_CDF.place),
+];
+
+/// The broken rule of the lowest number: there are four sets of 5528 numbers (1), every CDF falls from below 32768
+/// and ends with a count of at most 32, and padding is 0 (2), and the sets agree outside the fields of coefficients (3).
+pub fn check_tables(tables: &Tables) -> Option<Rule>
+    ensures { result ≡ option_map (λ n. record { 0 = n }) (first_broken (table_rules tables.now)) }
+{
+    if tables.sets.len() != 4 {
+        return Some(Rule(1));
+    }
+    check_sets(
+        &tables.sets[0],
+        &tables.sets[1],
+        &tables.sets[2],
+        &tables.sets[3],
+    )
+}
+
+fn check_sets(a: &[u16], b: &[u16], c: &[u16], d: &[u16]) -> Option<Rule>
+    ensures { result ≡ option_map (λ n. record { 0 = n }) (first_broken (table_rules (a.now ∷ b.now ∷ c.now ∷ d.now ∷ []))) }
+{
+    if !(a.len() == NUMBERS && b.len() == NUMBERS && c.len() == NUMBERS && d.len() == NUMBERS) {
+        Some(Rule(1))
+    } else if !(is_valid(a) && is_valid(b) && is_valid(c) && is_valid(d)) {
+        Some(Rule(2))
+    } else if !agree(a, b, c, d) {
+        Some(Rule(3))
+    } else {
+        None
+    }
+}
+
+fn is_valid(set: &[u16]) -> bool
+    requires { length set.now ≡ 5528 }
+    ensures { result ≡ valid_set set.now }
+{
+    let mut run = 0;
+    for k in 0..NUMBERS {
+        run = run_with(run, k);
+        let cell = cell_in(run, k);
+        if !number_fits(set, k, cell) {
+            return false;
+        }
+    }
+    true
+}
+
+fn number_fits(set: &[u16], k: usize, cell: Cell) -> bool
+    requires set { length set.now ≡ 5528 }
+    requires k { k < 5528 }
+    requires cell { cell ≡ cell_of k }
+    requires from { cell.place ≤ k }
+    requires within { cell.place + cell.len ≤ 5528 }
+    ensures { result ≡ number_fits set.now k }
+{
+    let number = set[k];
+    if cell.len < 2 {
+        number == 0
+    } else if cell.ends_with(k) {
+        number <= 32
+    } else {
+        number < 32768 && (k == cell.place || number <= set[k - 1])
+    }
+}
+
+fn agree(a: &[u16], b: &[u16], c: &[u16], d: &[u16]) -> bool
+    requires a { length a.now ≡ 5528 }
+    requires b { length b.now ≡ 5528 }
+    requires c { length c.now ≡ 5528 }
+    requires d { length d.now ≡ 5528 }
+    ensures { result ≡ sets_agree (a.now ∷ b.now ∷ c.now ∷ d.now ∷ []) }
+{
+    for k in 0..NUMBERS {
+        if !agree_at(a, b, c, d, k) {
+            return false;
+        }
+    }
+    true
+}
+
+fn agree_at(a: &[u16], b: &[u16], c: &[u16], d: &[u16], k: usize) -> bool
+    requires a { k < length a.now }
+    requires b { k < length b.now }
+    requires c { k < length c.now }
+    requires d { k < length d.now }
+    ensures { result ≡ (is_coefficient k || same_at (a.now ∷ b.now ∷ c.now ∷ d.now ∷ []) k) }
+{
+    is_coefficient(k) || same_at(a[k], b[k], c[k], d[k])
+}
+
+#[tactic(auto, using(std::proofs::lemmas::Bool::Decides::nat_tests))]
+fn same_at(a: u16, b: u16, c: u16, d: u16) -> bool
+    ensures { result ≡ (nat_eq a a && (nat_eq b a && (nat_eq c a && (nat_eq d a && true)))) }
+{
+    b == a && c == a && d == a
+}
+
+fn is_within(ranges: &[(usize, usize)], k: usize) -> bool
+    ensures { result ≡ list_any (λ range. nat_le range.0 k && nat_lt k range.1) ranges.now }
+{
+    ranges.iter().any(|range| range.0 <= k && k < range.1)
+}
+
+#[tactic(auto, unfolding(crate::specs::Tables::is_coefficient, crate::specs::Tables::coefficient_fields, crate::specs::Layout::layout, crate::specs::Layout::fields, crate::specs::Layout::vector_fields, crate::specs::Layout::component_fields))]
+fn is_coefficient(k: usize) -> bool
+    ensures { result ≡ is_coefficient k }
+{
+    is_within(&COEFFICIENTS, k)
+}
