@@ -1,2 +1,7 @@
+pub mod Costs
 pub mod Encoding
 pub mod Ending
+pub mod FlatBits
+pub mod Lengths
+pub mod SignedRange
+pub mod Words

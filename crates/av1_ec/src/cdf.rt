@@ -1,6 +1,6 @@
-// How a distribution learns from the symbols that it codes.
-ghost use Rattle.std.specs.Prelude.{◌≡◌, ◌<◌, length};
-ghost use Rattle.av1_model.specs.Cdf.{IsCdf, adapt};
+// How a distribution learns from the symbols that it codes, and what each symbol has of it.
+ghost use Rattle.std.specs.Prelude.{◌≡◌, ℕ, ◌-◌, ◌/◌, ◌<◌, length, slice_index};
+ghost use Rattle.av1_model.specs.Cdf.{IsCdf, adapt, token_of};
 
 /// Adapts a CDF after symbol `val`, as rav1e's `update_cdf` of `src/ec.rs`: the numbers before the symbol rise towards
 /// 32768, those from it on fall, and the count, in the last place, rises by one up to 32. The more symbols there are and
@@ -22,4 +22,20 @@ pub fn update_cdf(cdf: &mut [u16], val: u32)
         cdf[i] -= cdf[i] >> rate;
     }
     cdf[last] = count + 1 - (count >> 5);
+}
+
+/// How many of 512 each symbol has, as rav1e's `cdf_to_pdf`: its number and the one before it, 32768 for the first symbol,
+/// are shifted right by 6, and the difference is taken.
+pub fn cdf_to_pdf<const CDF_LEN: usize>(cdf: &[u16; CDF_LEN]) -> [u16; CDF_LEN]
+    requires { IsCdf cdf.now }
+    ensures { (s : ℕ) → s < CDF_LEN → let t = token_of cdf.now s in slice_index result s ≡ t.fl / 64 - t.fh / 64 }
+{
+    let mut pdf = [0; CDF_LEN];
+    let mut z = 512;
+    for i in 0..CDF_LEN {
+        let next = cdf[i] >> 6;
+        pdf[i] = z - next;
+        z = next;
+    }
+    pdf
 }

@@ -1,13 +1,14 @@
 // The encoder: entries of a byte and a carry, and a window of the low end.
-ghost use Rattle.std.specs.Prelude.{◌≡◌, ◌-◌, ◌/◌, IfOk, vec_len, vec_capacity};
+ghost use Rattle.std.specs.Prelude.{◌≡◌, ◌-◌, ◌/◌, IfOk, length, vec_len, vec_capacity};
 ghost use Rattle.av1_model.specs.Interval.{whole, final_bytes};
 ghost use Rattle.av1_model.specs.Position.{encoder_at, interval_of};
 ghost use Rattle.av1_ec.specs.Encoder.{weight_of, encoder_position, IsEncoding};
+ghost use Rattle.av1_ec.specs.Checkpoint.{IsBeginning, beginning_position};
 ghost use Rattle.av1_ec.specs.EncoderLaw.{position_valid};
 
 use crate::precarry::{make_room, push_end, sum_carries};
-use crate::storage::{Storage, StorageBackend, Tally};
-use crate::writer_base::{WriterBase, count_of};
+use crate::storage::{Storage, StorageBackend, Tally, WriterCheckpoint};
+use crate::writer_base::{WriterBase, count_of, lr_compute};
 use av1_geometry::OutOfMemory;
 use std::alloc::Global;
 
@@ -65,9 +66,15 @@ impl StorageBackend for WriterBase<WriterEncoder> {
 
     ghost spare = { λ w. (vec_capacity w.s.precarry - vec_len w.s.precarry) / 2 };
 
+    ghost stored = { λ w. length w.s.precarry.items };
+
+    ghost IsReached = { λ w c. IsBeginning w.s.precarry.items c };
+
+    ghost position_at = { λ w c. beginning_position w.s.precarry.items w.fake_bits_frac c };
+
     #[inline(always)]
     fn store(&mut self, fl: u16, fh: u16, nms: u16) -> Result<(), OutOfMemory> {
-        let (above, width) = self.lr_compute(fl, fh, nms);
+        let (above, width) = lr_compute(self.rng, fl, fh, nms);
         let weight = self.weight();
         let d = width.leading_zeros();
         let (low, weight) = make_room(&mut self.s.precarry, self.s.low + above, weight, d)?;
@@ -90,6 +97,34 @@ impl StorageBackend for WriterBase<WriterEncoder> {
             bits: (8 * self.s.precarry.len() + (self.cnt + 9) as usize) as u32,
             fake_bits_frac: self.fake_bits_frac,
         }
+    }
+
+    #[inline(always)]
+    fn checkpoint(&self) -> WriterCheckpoint {
+        WriterCheckpoint {
+            stream_size: self.s.precarry.len(),
+            backend_var: self.s.low,
+            rng: self.rng,
+            cnt: self.cnt,
+        }
+    }
+
+    #[inline(always)]
+    fn rollback(&mut self, checkpoint: &WriterCheckpoint) {
+        self.s.precarry.truncate(checkpoint.stream_size);
+        self.s.low = checkpoint.backend_var;
+        self.rng = checkpoint.rng;
+        self.cnt = checkpoint.cnt;
+    }
+
+    #[inline]
+    fn stream_bits(&self) -> usize {
+        8 * self.s.precarry.len()
+    }
+
+    #[inline]
+    fn add_bits_frac(&mut self, bits_frac: u32) {
+        self.fake_bits_frac += bits_frac;
     }
 
     ghost valid = { λ w. position_valid w.s.precarry.items w.s.low w.rng w.cnt w.fake_bits_frac w.window w.fake };

@@ -5,12 +5,19 @@
 //! says how the position advances, in the same words for every storage. In a clause, `W.position w.new` is the position
 //! of a `w: &mut W` under `W: Writer`, and `⟦<WriterBase<WriterEncoder> as Writer>⟧.position w` that of an encoder `w`.
 //!
+//! A checkpoint stands for a position while what was stored then is still there: `W.position_at w.new c` where
+//! `W.IsReached w.new c`. Every store keeps that of each checkpoint, and a `rollback` keeps it of those that `reach` no
+//! further than its own. A later checkpoint reaches at least as far as an earlier one, so trials may stand in trials.
+//!
 //! - `storage`: what a writer keeps beside its range, and the calls that differ from one storage to another
 //! - `writer`: the calls that are the same for all
 //! - `writer_base`: the range, the count and the fake bits over a storage
 //! - `encoder`: the storage that writes the bytes
 //! - `precarry`: its entries of a byte and a carry, which leave a window and are summed at the end
-//! - `cdf`: how a distribution learns
+//! - `frac`: eighths of a bit
+//! - `flat`: bits that are stored as symbols, and `word`: the codes' words
+//! - `laws`: how long the codes are
+//! - `cdf`: how a distribution learns, and what its symbols have of 512
 //!
 //! Memory: a storing call may answer `OutOfMemory`, and then the position is as it was. `ready(n)` makes the spare at
 //! least n, and a store that begins with a spare succeeds and lowers it by at most one.
@@ -18,15 +25,21 @@
 
 mod cdf;
 mod encoder;
+mod flat;
+mod frac;
+mod laws;
 mod precarry;
 mod storage;
 #[cfg(test)]
 mod tests;
+mod word;
 mod writer;
 mod writer_base;
 
-pub use cdf::update_cdf;
+pub use cdf::{cdf_to_pdf, update_cdf};
 pub use encoder::WriterEncoder;
-pub use storage::{Storage, StorageBackend, Tally};
+pub use frac::OD_BITRES;
+pub use laws::law_of_lengths;
+pub use storage::{Storage, StorageBackend, Tally, WriterCheckpoint};
 pub use writer::Writer;
 pub use writer_base::WriterBase;

@@ -1,5 +1,5 @@
 // An encoder's entries, each a byte and a carry: they leave the window, and their carries are summed at the end.
-ghost use Rattle.std.specs.Prelude.{◌≡◌, ◌+◌, ◌-◌, ◌*◌, ◌/◌, ◌%◌, ◌^◌, ◌<◌, ◌≤◌, ◌++◌, ◌∷◌, [], IfOk, OnOk, OnErr, IsOk, All, length, vec_len, vec_capacity};
+ghost use Rattle.std.specs.Prelude.{◌≡◌, ◌+◌, ◌-◌, ◌*◌, ◌/◌, ◌%◌, ◌^◌, ◌<◌, ◌≤◌, ◌++◌, ◌∷◌, [], IfOk, OnOk, OnErr, IsOk, All, length, take, vec_len, vec_capacity};
 ghost use Rattle.std.specs.Int.{bytes_high_first};
 ghost use Rattle.std.specs.Int.Digits.{number_from_digits};
 ghost use Rattle.av1_model.specs.Interval.{final_bytes};
@@ -26,6 +26,7 @@ pub(crate) fn make_room(
     ensures err { OnErr result (precarry.new.items ≡ precarry.old.items) }
     ensures room { vec_len precarry.old + 2 ≤ vec_capacity precarry.old → IsOk result }
     ensures entries { vec_len precarry.new ≤ vec_len precarry.old + 2 }
+    ensures begins { take (vec_len precarry.old) precarry.new.items ≡ precarry.old.items }
     ensures capacity { vec_capacity precarry.old ≤ vec_capacity precarry.new }
 {
     if weight + d < 24 {

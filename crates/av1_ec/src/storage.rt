@@ -2,7 +2,8 @@
 ghost use Rattle.std.specs.Prelude.{◌≡◌, ℕ, ℤ, ◌+◌, ◌^◌, ◌<◌, ◌≤◌, IsOk, OnOk, OnErr};
 ghost use Rattle.av1_model.specs.Interval.{Token, IsToken};
 ghost use Rattle.av1_model.specs.Position.{Position, advance};
-ghost use Rattle.av1_ec.specs.Writing.{IsPosition};
+ghost use Rattle.av1_ec.specs.Checkpoint.{reach, KeepsCheckpoints};
+ghost use Rattle.av1_ec.specs.Writing.{IsPosition, stream_bits_at, with_fake};
 
 use av1_geometry::OutOfMemory;
 
@@ -24,13 +25,38 @@ pub struct Tally {
     pub fake_bits_frac: u32,
 }
 
+/// A moment of a writer, to which `rollback` goes back. It stands for a position as long as the writer has what was stored
+/// then.
+#[derive(Clone, Copy, Debug)]
+pub struct WriterCheckpoint {
+    // How much was stored: an encoder's entries.
+    pub(crate) stream_size: usize,
+    // What the storage keeps beside: an encoder's window.
+    pub(crate) backend_var: u32,
+    // The width of the interval.
+    pub(crate) rng: u16,
+    // How many bits the window held.
+    pub(crate) cnt: i16,
+}
+
 /// A writer by its storage, as rav1e's `StorageBackend` of `src/ec.rs`: an encoder, a recorder or a counter.
 pub trait StorageBackend {
+    ghost use Rattle.av1_ec.specs.declared.storage.WriterCheckpoint.{WriterCheckpoint};
+
     /// What is known of the writer: range, shift, fake bits, an encoder's low end, a recorder's tokens.
     ghost position: { Self → Position };
 
     /// How many tokens fit before more memory is needed.
     ghost spare: { Self → ℕ };
+
+    /// How much is stored.
+    ghost stored: { Self → ℕ };
+
+    /// What was stored at the checkpoint is still there, and stands for a position together with its numbers.
+    ghost IsReached: { Self → WriterCheckpoint → Type 0 };
+
+    /// This position, with the fake bits of now.
+    ghost position_at: { Self → WriterCheckpoint → Position };
 
     /// Stores the token of a symbol, whose part of 32768 goes from `fl` (32768 for the first symbol) down to `fh`, and
     /// which is followed by `nms` - 1 symbols. A refusal leaves the position as it was.
@@ -40,19 +66,51 @@ pub trait StorageBackend {
         ensures ok { OnOk result (position self.new ≡ advance (position self.old) record { fl = fl; fh = fh; nms = nms }) }
         ensures err { OnErr result (position self.new ≡ position self.old) }
         ensures room { 0 < spare self.old → IsOk result }
-        ensures spare { spare self.old ≤ spare self.new + 1 };
+        ensures spare { spare self.old ≤ spare self.new + 1 }
+        ensures kept { KeepsCheckpoints stored IsReached position_at self.old self.new };
 
     /// Makes room for this many tokens, so that as many stores cannot fail. The position stays, also on a refusal.
     fn ready(&mut self, tokens: usize) -> Result<(), OutOfMemory>
         ensures same { position self.new ≡ position self.old }
         ensures ready { OnOk result (tokens ≤ spare self.new) }
-        ensures spare { spare self.old ≤ spare self.new };
+        ensures spare { spare self.old ≤ spare self.new }
+        ensures kept { KeepsCheckpoints stored IsReached position_at self.old self.new };
 
     /// How far the writer has come.
     fn tally(&self) -> Tally
         ensures rng { result.rng ≡ (position self.now).range }
         ensures bits { result.bits ≡ (position self.now).shift }
         ensures fake { result.fake_bits_frac ≡ (position self.now).fake };
+
+    /// A checkpoint of now.
+    fn checkpoint(&self) -> WriterCheckpoint
+        ensures reached { IsReached self.now result }
+        ensures reach { reach result ≡ stored self.now }
+        ensures position { position_at self.now result ≡ position self.now };
+
+    /// Goes back to a checkpoint, except that the fake bits stay. Each checkpoint before it, which reaches no further, stands
+    /// for what it stood for.
+    fn rollback(&mut self, checkpoint: &WriterCheckpoint)
+        requires { IsReached self.old checkpoint.now }
+        ensures position { position self.new ≡ position_at self.old checkpoint.now }
+        ensures fake { (position self.new).fake ≡ (position self.old).fake }
+        ensures spare { spare self.old ≤ spare self.new }
+        ensures stored { stored self.new ≡ reach checkpoint.now }
+        ensures reached { (c : WriterCheckpoint) → reach c ≤ reach checkpoint.now → IsReached self.old c → IsReached self.new c }
+        ensures kept { (c : WriterCheckpoint) → reach c ≤ reach checkpoint.now → IsReached self.old c → position_at self.new c ≡ position_at self.old c };
+
+    /// How many bits are in the stored stream: an encoder's whole bytes, all bits of another writer.
+    fn stream_bits(&self) -> usize
+        ensures { result ≡ stream_bits_at (position self.now) };
+
+    /// Adds fake bits, in 256ths of a bit, which `rollback` leaves. What a checkpoint stands for has them too.
+    fn add_bits_frac(&mut self, bits_frac: u32)
+        requires { (position self.old).fake + bits_frac ≤ 2 ^ 28 }
+        ensures position { position self.new ≡ with_fake (position self.old) bits_frac }
+        ensures spare { spare self.new ≡ spare self.old }
+        ensures stored { stored self.new ≡ stored self.old }
+        ensures reached { (c : WriterCheckpoint) → IsReached self.old c → IsReached self.new c }
+        ensures kept { (c : WriterCheckpoint) → position_at self.new c ≡ with_fake (position_at self.old c) bits_frac };
 
     /// Every writer's interval is valid.
     ghost valid: { (w : Self) → IsPosition (position w) };

@@ -1,12 +1,22 @@
 // The calls that are the same for every storage.
-ghost use Rattle.std.specs.Prelude.{◌≡◌, ℕ, ◌+◌, ◌/◌, ◌^◌, ◌<◌, ◌≤◌, length, IsOk, OnOk, OnErr};
+ghost use Rattle.std.specs.Prelude.{◌≡◌, ℕ, ◌+◌, ◌*◌, ◌/◌, ◌^◌, ◌<◌, ◌≤◌, length, nat_eq, max, pos, ◌-ℤ◌, ◌≤ℤ◌, ◌<ℤ◌, IsOk, OnOk, OnErr};
+ghost use Rattle.av1_ec.specs.Flat.{bool_token, flat_tokens, golomb, refsubexp_between};
+ghost use Rattle.av1_model.specs.Bits.{bits_of};
+ghost use Rattle.av1_model.specs.Codes.{quniform, subexp, refsubexp};
 ghost use Rattle.av1_model.specs.Cdf.{IsCdf, token_of};
-ghost use Rattle.av1_model.specs.Position.{Position, advance};
-ghost use Rattle.av1_ec.specs.Writing.{IsPosition};
+ghost use Rattle.av1_model.specs.Eighths.{eighths};
+ghost use Rattle.av1_model.specs.Interval.{narrow};
+ghost use Rattle.av1_model.specs.Position.{Position, advance, advance_all, interval_of};
+ghost use Rattle.av1_ec.specs.Checkpoint.{reach, KeepsCheckpoints};
+ghost use Rattle.av1_ec.specs.declared.storage.WriterCheckpoint.{WriterCheckpoint};
+ghost use Rattle.av1_ec.specs.Writing.{IsPosition, with_fake};
 ghost use Rattle.std.proofs.Common.{rules};
 
-use crate::storage::{Storage, StorageBackend};
-use crate::writer_base::WriterBase;
+use crate::flat::store_word;
+use crate::frac::{log_eighths, symbol_eighths};
+use crate::storage::{Storage, StorageBackend, WriterCheckpoint};
+use crate::word::{Word, golomb_word, quniform_word, refsubexp_word, signed_word, subexp_word};
+use crate::writer_base::{WriterBase, token};
 use av1_geometry::OutOfMemory;
 
 /// A writer of symbols, as rav1e's `Writer` of `src/ec.rs`.
@@ -17,6 +27,15 @@ pub trait Writer {
     /// How many symbols fit before more memory is needed.
     ghost spare: { Self → ℕ };
 
+    /// How much is stored.
+    ghost stored: { Self → ℕ };
+
+    /// What was stored at the checkpoint is still there, and stands for a position together with its numbers.
+    ghost IsReached: { Self → WriterCheckpoint → Type 0 };
+
+    /// This position, with the fake bits of now.
+    ghost position_at: { Self → WriterCheckpoint → Position };
+
     /// Codes symbol `s` by a CDF of as many symbols as it has numbers, of which the last is the count. The CDF stays as
     /// it is. A refusal leaves the position as it was.
     fn symbol(&mut self, s: u32, cdf: &[u16]) -> Result<(), OutOfMemory>
@@ -26,12 +45,175 @@ pub trait Writer {
         ensures ok { OnOk result (position self.new ≡ advance (position self.old) (token_of cdf.now s)) }
         ensures err { OnErr result (position self.new ≡ position self.old) }
         ensures room { 0 < spare self.old → IsOk result }
-        ensures spare { spare self.old ≤ spare self.new + 1 };
+        ensures spare { spare self.old ≤ spare self.new + 1 }
+        ensures kept { KeepsCheckpoints stored IsReached position_at self.old self.new };
+
+    /// Codes a bool that is true `f` times in 32768. A refusal leaves the position as it was.
+    fn bool(&mut self, val: bool, f: u16) -> Result<(), OutOfMemory>
+        requires some { 0 < f }
+        requires not_all { f < 32768 }
+        requires shift { (advance (position self.old) (bool_token f val)).shift ≤ 2 ^ 28 + 2 ^ 24 }
+        ensures ok { OnOk result (position self.new ≡ advance (position self.old) (bool_token f val)) }
+        ensures err { OnErr result (position self.new ≡ position self.old) }
+        ensures room { 0 < spare self.old → IsOk result }
+        ensures spare { spare self.old ≤ spare self.new + 1 }
+        ensures kept { KeepsCheckpoints stored IsReached position_at self.old self.new };
+
+    /// Codes a bit that is as likely as not, 0 or 1. A refusal leaves the position as it was.
+    fn bit(&mut self, bit: u16) -> Result<(), OutOfMemory>
+        requires bit { bit ≤ 1 }
+        requires shift { (advance (position self.old) (bool_token 16384 (nat_eq bit 1))).shift ≤ 2 ^ 28 + 2 ^ 24 }
+        ensures ok { OnOk result (position self.new ≡ advance (position self.old) (bool_token 16384 (nat_eq bit 1))) }
+        ensures err { OnErr result (position self.new ≡ position self.old) }
+        ensures room { 0 < spare self.old → IsOk result }
+        ensures spare { spare self.old ≤ spare self.new + 1 }
+        ensures kept { KeepsCheckpoints stored IsReached position_at self.old self.new };
+
+    /// Codes the `bits` lowest bits of `s`, at most 32, the highest first, all or none.
+    fn literal(&mut self, bits: u8, s: u32) -> Result<(), OutOfMemory>
+        requires bits { bits ≤ 32 }
+        requires fits { s < 2 ^ bits }
+        requires shift { (advance_all (position self.old) (flat_tokens (bits_of bits s))).shift ≤ 2 ^ 28 + 2 ^ 24 }
+        ensures ok { OnOk result (position self.new ≡ advance_all (position self.old) (flat_tokens (bits_of bits s))) }
+        ensures err { OnErr result (position self.new ≡ position self.old) }
+        ensures kept { KeepsCheckpoints stored IsReached position_at self.old self.new };
+
+    /// Codes `level` in the Exp-Golomb code, all or none.
+    fn write_golomb(&mut self, level: u32) -> Result<(), OutOfMemory>
+        requires level { level + 1 < 2 ^ 32 }
+        requires shift { (advance_all (position self.old) (flat_tokens (golomb level))).shift ≤ 2 ^ 28 + 2 ^ 24 }
+        ensures ok { OnOk result (position self.new ≡ advance_all (position self.old) (flat_tokens (golomb level))) }
+        ensures err { OnErr result (position self.new ≡ position self.old) }
+        ensures kept { KeepsCheckpoints stored IsReached position_at self.old self.new };
+
+    /// Codes `v`, one of `n` values, in the quasi-uniform code, all or none: NS(n) of the AV1 specification.
+    fn write_quniform(&mut self, n: u32, v: u32) -> Result<(), OutOfMemory>
+        requires value { v < max n 1 }
+        requires few { n ≤ 2 ^ 24 }
+        requires shift { (advance_all (position self.old) (flat_tokens (quniform n v))).shift ≤ 2 ^ 28 + 2 ^ 24 }
+        ensures ok { OnOk result (position self.new ≡ advance_all (position self.old) (flat_tokens (quniform n v))) }
+        ensures err { OnErr result (position self.new ≡ position self.old) }
+        ensures kept { KeepsCheckpoints stored IsReached position_at self.old self.new };
+
+    /// Codes `v`, one of `n` values, in the subexponential code with first width `k`, all or none.
+    fn write_subexp(&mut self, n: u32, k: u8, v: u32) -> Result<(), OutOfMemory>
+        requires value { v < n }
+        requires few { n ≤ 2 ^ 24 }
+        requires width { k ≤ 16 }
+        requires shift { (advance_all (position self.old) (flat_tokens (subexp n k v))).shift ≤ 2 ^ 28 + 2 ^ 24 }
+        ensures ok { OnOk result (position self.new ≡ advance_all (position self.old) (flat_tokens (subexp n k v))) }
+        ensures err { OnErr result (position self.new ≡ position self.old) }
+        ensures kept { KeepsCheckpoints stored IsReached position_at self.old self.new };
+
+    /// Codes `v`, one of `mx` values, by its distance from `r` in the subexponential code, all or none.
+    fn write_unsigned_subexp_with_ref(
+        &mut self,
+        v: u32,
+        mx: u32,
+        k: u8,
+        r: u32,
+    ) -> Result<(), OutOfMemory>
+        requires value { v < mx }
+        requires reference { r < mx }
+        requires few { mx ≤ 2 ^ 24 }
+        requires width { k ≤ 16 }
+        requires shift { (advance_all (position self.old) (flat_tokens (refsubexp mx k r v))).shift ≤ 2 ^ 28 + 2 ^ 24 }
+        ensures ok { OnOk result (position self.new ≡ advance_all (position self.old) (flat_tokens (refsubexp mx k r v))) }
+        ensures err { OnErr result (position self.new ≡ position self.old) }
+        ensures kept { KeepsCheckpoints stored IsReached position_at self.old self.new };
+
+    /// Codes `v`, a number from `low` on and below `high`, by its distance from `r` in the subexponential code, all or none.
+    fn write_signed_subexp_with_ref(
+        &mut self,
+        v: i32,
+        low: i32,
+        high: i32,
+        k: u8,
+        r: i32,
+    ) -> Result<(), OutOfMemory>
+        requires value_from { low ≤ℤ v }
+        requires value_to { v <ℤ high }
+        requires reference_from { low ≤ℤ r }
+        requires reference_to { r <ℤ high }
+        requires few { (high -ℤ low) ≤ℤ pos (2 ^ 24) }
+        requires width { k ≤ 16 }
+        requires shift { (advance_all (position self.old) (flat_tokens (refsubexp_between low high k r v))).shift ≤ 2 ^ 28 + 2 ^ 24 }
+        ensures ok { OnOk result (position self.new ≡ advance_all (position self.old) (flat_tokens (refsubexp_between low high k r v))) }
+        ensures err { OnErr result (position self.new ≡ position self.old) }
+        ensures kept { KeepsCheckpoints stored IsReached position_at self.old self.new };
+
+    /// What `write_quniform` takes, in eighths of a bit.
+    fn count_quniform(&self, n: u32, v: u32) -> u32
+        requires value { v < max n 1 }
+        requires few { n ≤ 2 ^ 24 }
+        ensures { result ≡ 8 * length (quniform n v) };
+
+    /// What `write_subexp` takes, in eighths of a bit.
+    fn count_subexp(&self, n: u32, k: u8, v: u32) -> u32
+        requires value { v < n }
+        requires few { n ≤ 2 ^ 24 }
+        requires width { k ≤ 16 }
+        ensures { result ≡ 8 * length (subexp n k v) };
+
+    /// What `write_unsigned_subexp_with_ref` takes, in eighths of a bit.
+    fn count_unsigned_subexp_with_ref(&self, v: u32, mx: u32, k: u8, r: u32) -> u32
+        requires value { v < mx }
+        requires reference { r < mx }
+        requires few { mx ≤ 2 ^ 24 }
+        requires width { k ≤ 16 }
+        ensures { result ≡ 8 * length (refsubexp mx k r v) };
+
+    /// What `write_signed_subexp_with_ref` takes, in eighths of a bit.
+    fn count_signed_subexp_with_ref(&self, v: i32, low: i32, high: i32, k: u8, r: i32) -> u32
+        requires value_from { low ≤ℤ v }
+        requires value_to { v <ℤ high }
+        requires reference_from { low ≤ℤ r }
+        requires reference_to { r <ℤ high }
+        requires few { (high -ℤ low) ≤ℤ pos (2 ^ 24) }
+        requires width { k ≤ 16 }
+        ensures { result ≡ 8 * length (refsubexp_between low high k r v) };
 
     /// How many bits the symbols take so far: those that were shifted out, one more, and the whole fake bits. It is at
     /// most 2^28 + 2^24 + 2^20 + 1.
     fn tell(&self) -> u32
         ensures { result ≡ (position self.now).shift + 1 + (position self.now).fake / 256 };
+
+    /// A checkpoint of now.
+    fn checkpoint(&self) -> WriterCheckpoint
+        ensures reached { IsReached self.now result }
+        ensures reach { reach result ≡ stored self.now }
+        ensures position { position_at self.now result ≡ position self.now };
+
+    /// Goes back to a checkpoint, except that the fake bits stay. Each checkpoint before it, which reaches no further, stands
+    /// for what it stood for.
+    fn rollback(&mut self, checkpoint: &WriterCheckpoint)
+        requires { IsReached self.old checkpoint.now }
+        ensures position { position self.new ≡ position_at self.old checkpoint.now }
+        ensures fake { (position self.new).fake ≡ (position self.old).fake }
+        ensures spare { spare self.old ≤ spare self.new }
+        ensures stored { stored self.new ≡ reach checkpoint.now }
+        ensures reached { (c : WriterCheckpoint) → reach c ≤ reach checkpoint.now → IsReached self.old c → IsReached self.new c }
+        ensures kept { (c : WriterCheckpoint) → reach c ≤ reach checkpoint.now → IsReached self.old c → position_at self.new c ≡ position_at self.old c };
+
+    /// How many eighths of a bit the symbols take so far. The fake bits are counted twice, whole ones as eighths and all of
+    /// them as 256ths, as in rav1e.
+    fn tell_frac(&self) -> u32
+        ensures { let p = position self.now in result ≡ eighths (interval_of p) + 8 * (p.fake / 256) + p.fake };
+
+    /// How many eighths of a bit symbol `s` would take here, by a CDF of as many symbols as it has numbers.
+    fn symbol_bits(&self, s: u32, cdf: &[u16]) -> u32
+        requires cdf { IsCdf cdf.now }
+        requires s { s < length cdf.now }
+        ensures { let i = interval_of (position self.now) in eighths i + result ≡ eighths (narrow i (token_of cdf.now s)) };
+
+    /// Adds fake bits, in 256ths of a bit, which `rollback` leaves. What a checkpoint stands for has them too.
+    fn add_bits_frac(&mut self, bits_frac: u32)
+        requires { (position self.old).fake + bits_frac ≤ 2 ^ 28 }
+        ensures position { position self.new ≡ with_fake (position self.old) bits_frac }
+        ensures spare { spare self.new ≡ spare self.old }
+        ensures stored { stored self.new ≡ stored self.old }
+        ensures reached { (c : WriterCheckpoint) → IsReached self.old c → IsReached self.new c }
+        ensures kept { (c : WriterCheckpoint) → position_at self.new c ≡ with_fake (position_at self.old c) bits_frac };
 
     /// Every writer's interval is valid.
     ghost valid: { (w : Self) → IsPosition (position w) };
@@ -45,17 +227,115 @@ where
 
     ghost spare = { λ w. ⟦<WriterBase<S> as StorageBackend>⟧.spare w };
 
+    ghost stored = { λ w. ⟦<WriterBase<S> as StorageBackend>⟧.stored w };
+
+    ghost IsReached = { λ w c. ⟦<WriterBase<S> as StorageBackend>⟧.IsReached w c };
+
+    ghost position_at = { λ w c. ⟦<WriterBase<S> as StorageBackend>⟧.position_at w c };
+
     #[inline(always)]
     fn symbol(&mut self, s: u32, cdf: &[u16]) -> Result<(), OutOfMemory> {
-        let s = s as usize;
-        let fl = if s > 0 { cdf[s - 1] } else { 32768 };
-        self.store(fl, cdf[s], (cdf.len() - s) as u16)
+        let (fl, fh, nms) = token(s as usize, cdf);
+        self.store(fl, fh, nms)
+    }
+
+    #[inline(always)]
+    fn bool(&mut self, val: bool, f: u16) -> Result<(), OutOfMemory> {
+        self.symbol(if val { 1 } else { 0 }, &[f, 0])
+    }
+
+    #[inline(always)]
+    fn bit(&mut self, bit: u16) -> Result<(), OutOfMemory> {
+        self.bool(bit == 1, 16384)
+    }
+
+    fn literal(&mut self, bits: u8, s: u32) -> Result<(), OutOfMemory> {
+        let word = Word {
+            len: bits as u32,
+            number: s as u64,
+        };
+        store_word(self, word)
+    }
+
+    fn write_golomb(&mut self, level: u32) -> Result<(), OutOfMemory> {
+        store_word(self, golomb_word(level))
+    }
+
+    fn write_quniform(&mut self, n: u32, v: u32) -> Result<(), OutOfMemory> {
+        store_word(self, quniform_word(n, v))
+    }
+
+    fn write_subexp(&mut self, n: u32, k: u8, v: u32) -> Result<(), OutOfMemory> {
+        store_word(self, subexp_word(n, k, v))
+    }
+
+    fn write_unsigned_subexp_with_ref(
+        &mut self,
+        v: u32,
+        mx: u32,
+        k: u8,
+        r: u32,
+    ) -> Result<(), OutOfMemory> {
+        store_word(self, refsubexp_word(mx, k, r, v))
+    }
+
+    fn write_signed_subexp_with_ref(
+        &mut self,
+        v: i32,
+        low: i32,
+        high: i32,
+        k: u8,
+        r: i32,
+    ) -> Result<(), OutOfMemory> {
+        store_word(self, signed_word(low, high, k, r, v))
+    }
+
+    fn count_quniform(&self, n: u32, v: u32) -> u32 {
+        quniform_word(n, v).eighths()
+    }
+
+    fn count_subexp(&self, n: u32, k: u8, v: u32) -> u32 {
+        subexp_word(n, k, v).eighths()
+    }
+
+    fn count_unsigned_subexp_with_ref(&self, v: u32, mx: u32, k: u8, r: u32) -> u32 {
+        refsubexp_word(mx, k, r, v).eighths()
+    }
+
+    fn count_signed_subexp_with_ref(&self, v: i32, low: i32, high: i32, k: u8, r: i32) -> u32 {
+        signed_word(low, high, k, r, v).eighths()
     }
 
     #[inline(always)]
     fn tell(&self) -> u32 {
         let tally = self.tally();
         tally.bits + 1 + (tally.fake_bits_frac >> 8)
+    }
+
+    #[inline]
+    fn tell_frac(&self) -> u32 {
+        let tally = self.tally();
+        8 * self.tell() - log_eighths(u32::from(tally.rng)) + tally.fake_bits_frac
+    }
+
+    #[inline]
+    fn symbol_bits(&self, s: u32, cdf: &[u16]) -> u32 {
+        symbol_eighths(self.tally().rng, s, cdf)
+    }
+
+    #[inline]
+    fn add_bits_frac(&mut self, bits_frac: u32) {
+        StorageBackend::add_bits_frac(self, bits_frac)
+    }
+
+    #[inline(always)]
+    fn checkpoint(&self) -> WriterCheckpoint {
+        StorageBackend::checkpoint(self)
+    }
+
+    #[inline(always)]
+    fn rollback(&mut self, checkpoint: &WriterCheckpoint) {
+        StorageBackend::rollback(self, checkpoint)
     }
 
     ghost valid = { Prim.search rules };

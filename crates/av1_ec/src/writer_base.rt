@@ -1,11 +1,12 @@
 // A writer's range, its count and its fake bits, over a storage.
-ghost use Rattle.std.specs.Prelude.{◌≡◌, ◌-◌, ◌^◌, ◌≤◌, ◌≤ℤ◌, negsuc};
+ghost use Rattle.std.specs.Prelude.{◌≡◌, ◌-◌, ◌^◌, ◌<◌, ◌≤◌, ◌≤ℤ◌, negsuc, length};
+ghost use Rattle.av1_model.specs.Cdf.{IsCdf, token_of};
 ghost use Rattle.av1_model.specs.Interval.{Token, IsToken, top, bottom};
 ghost use Rattle.av1_ec.specs.Encoder.{weight_of};
 
 use crate::storage::Storage;
 
-const EC_PROB_SHIFT: u32 = 6;
+pub(crate) const EC_PROB_SHIFT: u32 = 6;
 
 const EC_MIN_PROB: u32 = 4;
 
@@ -28,25 +29,6 @@ pub struct WriterBase<S: Storage> {
 }
 
 impl<S: Storage> WriterBase<S> {
-    // How far a token's part lies above the low end, and how wide it is.
-    #[inline(always)]
-    pub(crate) fn lr_compute(&self, fl: u16, fh: u16, nms: u16) -> (u32, u16)
-        requires { IsToken record { fl = fl; fh = fh; nms = nms } }
-        ensures above { result.0 ≡ self.now.rng - top self.now.rng record { fl = fl; fh = fh; nms = nms } }
-        ensures width { let t : Token = record { fl = fl; fh = fh; nms = nms } in result.1 ≡ top self.now.rng t - bottom self.now.rng t }
-    {
-        let r = u32::from(self.rng);
-        let u = if fl >= 32768 {
-            r
-        } else {
-            ((r >> 8) * (u32::from(fl) >> EC_PROB_SHIFT) >> (7 - EC_PROB_SHIFT))
-                + EC_MIN_PROB * u32::from(nms)
-        };
-        let v = ((r >> 8) * (u32::from(fh) >> EC_PROB_SHIFT) >> (7 - EC_PROB_SHIFT))
-            + EC_MIN_PROB * u32::from(nms - 1);
-        (r - u, (u - v) as u16)
-    }
-
     // Where the window begins: at 2 to this power.
     #[inline(always)]
     pub(crate) fn weight(&self) -> u32
@@ -68,4 +50,36 @@ pub(crate) fn count_of(weight: u32) -> i16
     ensures most { result ≤ℤ negsuc 0 }
 {
     weight as i16 - 24
+}
+
+// How far a token's part of a range lies above the low end, and how wide it is.
+#[inline(always)]
+pub(crate) fn lr_compute(rng: u16, fl: u16, fh: u16, nms: u16) -> (u32, u16)
+    requires wide { 32768 ≤ rng }
+    requires token { IsToken record { fl = fl; fh = fh; nms = nms } }
+    ensures above { result.0 ≡ rng - top rng record { fl = fl; fh = fh; nms = nms } }
+    ensures width { let t : Token = record { fl = fl; fh = fh; nms = nms } in result.1 ≡ top rng t - bottom rng t }
+{
+    let r = u32::from(rng);
+    let u = if fl >= 32768 {
+        r
+    } else {
+        ((r >> 8) * (u32::from(fl) >> EC_PROB_SHIFT) >> (7 - EC_PROB_SHIFT))
+            + EC_MIN_PROB * u32::from(nms)
+    };
+    let v = ((r >> 8) * (u32::from(fh) >> EC_PROB_SHIFT) >> (7 - EC_PROB_SHIFT))
+        + EC_MIN_PROB * u32::from(nms - 1);
+    (r - u, (u - v) as u16)
+}
+
+// The token of a symbol.
+#[inline(always)]
+pub(crate) fn token(s: usize, cdf: &[u16]) -> (u16, u16, u16)
+    requires cdf { IsCdf cdf.now }
+    requires s { s < length cdf.now }
+    ensures is { record { fl = result.0; fh = result.1; nms = result.2 } ≡ token_of cdf.now s }
+    ensures valid { IsToken record { fl = result.0; fh = result.1; nms = result.2 } }
+{
+    let fl = if s > 0 { cdf[s - 1] } else { 32768 };
+    (fl, cdf[s], (cdf.len() - s) as u16)
 }

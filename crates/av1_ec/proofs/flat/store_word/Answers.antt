@@ -1,0 +1,19 @@
+use Rattle.std.proofs.Common.{arith}
+use Rattle.av1_ec.proofs.FlatBits.{keeps_both, next_within, next_stored, none_left}
+use Rattle.av1_ec.proofs.flat.store_word.Goals as goal
+
+pub store_bit-requires : goal.store_bit-requires
+store_bit-requires g c =
+    next_within (g.B.StorageBackend.position c.loop-left.w) _ c.loop-left.left c.args.word.number _ (omega (arith, c.loop-left-test.true)) c.loop-left.invariant.rest c.requires
+
+pub loop-left-preserved : goal.loop-left-preserved
+loop-left-preserved g c =
+    record {
+      most = omega (arith, c.loop-left.invariant.most);
+      room = omega (arith, c.loop-left.invariant.room, c.in_ok-store_bit.ensures.spare);
+      rest = next_stored (g.B.StorageBackend.position c.loop-left.w) _ _ c.loop-left.left c.args.word.number (omega (arith, c.loop-left-test.true)) c.loop-left.invariant.rest c.in_ok-store_bit.ensures.ok;
+      kept = keeps_both _ _ _ _ _ _ c.loop-left.invariant.kept c.in_ok-store_bit.ensures.kept;
+    }
+
+pub returns-clause-ok : goal.returns-clause-ok
+returns-clause-ok g c = none_left _ _ c.loop-left.left c.args.word.number (omega (arith, c.loop-left-test.false)) c.loop-left.invariant.rest
