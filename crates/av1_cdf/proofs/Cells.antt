@@ -4,9 +4,11 @@ use Rattle.std.proofs.lemmas.Nat.{div-mul-add, div-add-mod'}
 use Rattle.std.proofs.lemmas.Bool.Decides.{nat_tests, leb_tells}
 use Rattle.std.proofs.Math.Nat.{mul-le-mul_right, suc-mul, div-lt_iff_lt-mul, mod-lt}
 use Rattle.std.specs.List.{list_all, list_any}
+use Rattle.av1_cdf.specs.declared.run.Cell.{Cell}
 use Rattle.av1_cdf.specs.declared.run.Run.{Run}
+use Rattle.av1_cdf.specs.Slots.{cell_of}
 use Rattle.av1_cdf.specs.Layout.{Field, Slot, layout, fields, vector_fields, component_fields, count_in, length_in, cell_among, cell, is_slot, rises, size_of_context}
-use Rattle.av1_cdf.specs.Runs.{run_of, runs, is_run, has_run, run_at, Has, HasOrEnds}
+use Rattle.av1_cdf.specs.Runs.{run_of, runs, is_run, has_run, run_at, Has, HasOrEnds, IsBefore}
 
 pub both_true : (a b : Bool) → IsTrue (a && b) → IsTrue a × IsTrue b
 both_true true b h = (refl, h)
@@ -315,6 +317,77 @@ first_run = record { run = lit< tt; from = lit≤ tt; to = lit≤ tt }
 
 pub has_after : (i k : ℕ) → Has i k → HasOrEnds i (k + 1)
 has_after i k h = record { run = h.run; from = omega (arith, h.from); to = omega (arith, h.to) }
+
+-- each place has a run
+some_run : (k : ℕ) → k < 5528 → (i : ℕ) × Has i k
+some_run zero h = (0, record { run = lit< tt; from = first_run.from; to = omega (arith, run_more 0 (lit< tt)) })
+some_run (suc k) h =
+    let w = some_run k (omega arith) in
+    let at = run_at w.0 in
+    elim (lt_or_not (suc k) (at.place + at.count * at.len)) [
+      | inl l ↦ (w.0, record { run = w.1.run; from = omega (arith, w.1.from); to = l })
+      | inr l ↦ (w.0 + 1, next_run w.0 (suc k) (record { run = w.1.run; from = omega (arith, w.1.from); to = omega (arith, w.1.to) }) l h)
+    ]
+
+-- a place lies in its CDF, and that in the context
+pub cell_around : (k : ℕ) → k < 5528 → ((cell k).place ≤ k) × (k < (cell k).place + (cell k).len) × ((cell k).place + (cell k).len ≤ 5528)
+cell_around k h =
+    let w = some_run k h in
+    let o = cell_of_place w.0 k w.1 in
+    rw o.0 (o.1, o.2, o.3)
+
+-- all places of a CDF have it
+cell_whole : (j k : ℕ) → j < 5528 → (cell j).place ≤ k → k < (cell j).place + (cell j).len → cell k ≡ cell j
+cell_whole j k h u v =
+    let w = some_run j h in
+    let i = w.0 in
+    let r = run_at i in
+    let o = cell_of_place i j w.1 in
+    let q = (j - r.place) / r.len in
+    let fits = run_within i (record { place = 0; count = 0; len = 0 }) w.1.run in
+    let at : (cell j).place ≡ r.place + q * r.len = ap (λ (s : Slot). s.place) o.0 in
+    let long : (cell j).len ≡ r.len = ap (λ (s : Slot). s.len) o.0 in
+    let number : q < r.count = (div-lt_iff_lt-mul fits.1).1 (omega (arith, w.1.to, w.1.from)) in
+    let m = k - (r.place + q * r.len) in
+    let there : r.place + q * r.len + m ≡ k = omega (arith, at) in
+    subst (λ x. cell x ≡ record { place = r.place + q * r.len; len = r.len }) there (cell_of_run i (record { place = 0; count = 0; len = 0 }) w.1.run q m number (omega (arith, at, long))) ∙ sym o.0
+
+-- the CDF of the next place is the same one, or begins there
+pub cell_after : (i k : ℕ) (c : Cell) → Has i k → k < 5528 → IsBefore c k →
+    (c.place + c.len ≤ 5528) × (k < c.place + c.len → c ≡ cell_of k) × (c.place + c.len ≤ k → record { place = k; len = (run_at i).len } ≡ cell_of k)
+cell_after i zero c has h b =
+    let o = cell_of_place i zero has in
+    let e : c.place + c.len ≡ 0 = b.first refl in
+    let from = cell_around zero h in
+    let start : 0 ≡ (cell zero).place = omega (arith, from.0) in
+    let long : (run_at i).len ≡ (cell zero).len = ap (λ (s : Slot). s.len) (sym o.0) in
+    (omega (arith, e), λ l. absurd (omega (arith, e)), λ l j. record { place = start j; len = long j })
+cell_after i (suc j) c has h b =
+    let e : c ≡ cell_of j = b.last j (omega arith) in
+    let around = cell_around j (omega arith) in
+    let o = cell_of_place i (suc j) has in
+    let to : c.place + c.len ≡ (cell j).place + (cell j).len = ap (λ (x : Cell). x.place + x.len) e in
+    let next = cell_around (suc j) h in
+    let same : suc j < (cell j).place + (cell j).len → cell (suc j) ≡ cell j = λ l. cell_whole j (suc j) (omega arith) (omega (arith, around.0)) l in
+    let long : (run_at i).len ≡ (cell (suc j)).len = ap (λ (s : Slot). s.len) (sym o.0) in
+    let begins : (cell j).place + (cell j).len ≤ suc j → suc j ≡ (cell (suc j)).place =
+    λ l. elim (lt_or_not j (cell (suc j)).place) [
+      | inl a ↦ omega (arith, next.0)
+      | inr a ↦
+          let t : cell j ≡ cell (suc j) = cell_whole (suc j) j h a (omega (arith, next.1)) in
+          let z : (cell j).place + (cell j).len ≡ (cell (suc j)).place + (cell (suc j)).len = ap (λ (s : Slot). s.place + s.len) t in
+          absurd (omega (arith, z, next.1))
+    ] in (
+      omega (arith, to, around.2),
+      λ l. e ∙ ap (λ (s : Slot). record { place = s.place; len = s.len }) (sym (same (omega (arith, to)))),
+      λ l. let p = begins (omega (arith, to)) in λ n. record { place = p n; len = long n },
+    )
+
+pub before_first : IsBefore (record { place = 0; len = 0 }) 0
+before_first = record { first = λ e. refl; last = λ j e. absurd (omega arith) }
+
+pub before_next : (c : Cell) (k : ℕ) → c ≡ cell_of k → IsBefore c (k + 1)
+before_next c k e = record { first = λ z. absurd (omega arith); last = λ j z. let s : k ≡ j = omega arith in e ∙ ap cell_of s }
 
 -- two CDFs are the same, or have no place in common
 pub slots_apart : (s t : Slot) → IsTrue (is_slot s.place s.len) → IsTrue (is_slot t.place t.len) →

@@ -1,6 +1,9 @@
 pub mod Cells
 pub mod Names
+pub mod NumbersMemory
+pub mod Parts
 pub mod Sets
 pub mod Tested
+pub mod Undoing
 pub mod Valid
 pub mod Written

@@ -14,12 +14,12 @@ use Rattle.av1_cdf.proofs.Cells.{slot_within, slot_short, cell_of_slot}
 use Rattle.av1_cdf.proofs.Tested.{holds_at}
 use Rattle.av1_cdf.proofs.Sets.{whole, valid}
 
-contents_at : (xs : List ℕ) (s : Slot) (k : ℕ) → k < s.len → get_or (contents xs s) k 0 ≡ get_or xs (s.place + k) 0
+pub contents_at : (xs : List ℕ) (s : Slot) (k : ℕ) → k < s.len → get_or (contents xs s) k 0 ≡ get_or xs (s.place + k) 0
 contents_at xs s k h =
     let n : s.place + s.len - s.place ≡ s.len = omega arith in
     get_or-take (s.place + s.len - s.place) (drop s.place xs) k 0 (omega (arith, n, h)) ∙ get_or-drop s.place xs k 0
 
-contents_length : (xs : List ℕ) (s : Slot) → s.place + s.len ≤ length xs → length (contents xs s) ≡ s.len
+pub contents_length : (xs : List ℕ) (s : Slot) → s.place + s.len ≤ length xs → length (contents xs s) ≡ s.len
 contents_length xs s h = let d = length-drop s.place xs in length-take-le (s.place + s.len - s.place) (drop s.place xs) (omega (arith, d)) ∙ omega arith
 
 falls_by_steps : (f : ℕ → ℕ) (n j d : ℕ) → ((k : ℕ) → k + 2 < n → f (k + 1) ≤ f k) → j + d + 1 < n → f (j + d) ≤ f j
@@ -80,7 +80,7 @@ fit_at : (set : List ℕ) → IsTrue (valid_set set) → (k : ℕ) → k < 5528 
 unfolding valid_set
 fit_at set h k l = holds_at (number_fits set) size_of_context h k l
 
-below_four : (quantizer : ℕ) → set_number quantizer < 4
+pub below_four : (quantizer : ℕ) → set_number quantizer < 4
 below_four q = grind (arith, nat_tests)
 
 pub tables_start : (sets : List (List ℕ)) (quantizer : ℕ) (s : Slot) → first_broken (table_rules sets) ≡ None → IsTrue (is_slot s.place s.len) →

@@ -1,5 +1,5 @@
 -- The numbers of a context by their CDFs.
-use Rattle.std.specs.Prelude.{ℕ, ◌+◌, ◌-◌, ◌*◌, ◌/◌, List, Bool, ◌&&◌, nat_eq, nat_le, if◌then◌else◌, length, slice_index, map}
+use Rattle.std.specs.Prelude.{ℕ, ◌+◌, ◌-◌, ◌*◌, ◌/◌, List, Bool, ◌&&◌, nat_eq, nat_le, nat_lt, if◌then◌else◌, length, slice_index, map}
 use Rattle.std.specs.List.{range_with_len, slice_range}
 use Rattle.av1_cdf.specs.Layout.{Slot, cell, size_of_context}
 
@@ -26,3 +26,11 @@ is_count k = let c = cell k in nat_le 2 c.len && nat_eq (k + 1) (c.place + c.len
 -- a context with 0 for each count
 unfoldable pub with_counts_reset : List ℕ → List ℕ
 with_counts_reset numbers = map (λ k. if is_count k then 0 else slice_index numbers k) (range_with_len 0 (length numbers))
+
+-- a list with these numbers from one place up to another
+unfoldable pub written_between : List ℕ → ℕ → ℕ → List ℕ → List ℕ
+written_between numbers from to ws = map (λ k. if nat_le from k && nat_lt k to then slice_index ws (k - from) else slice_index numbers k) (range_with_len 0 (length numbers))
+
+-- a context with these numbers in a CDF
+abbrev pub with_contents : List ℕ → Slot → List ℕ → List ℕ
+with_contents numbers s ws = written_between numbers s.place (s.place + s.len) ws

@@ -1,6 +1,8 @@
 pub mod Context
 pub mod FieldMap
 pub mod Layout
+pub mod Lending
+pub mod Log
 pub mod Runs
 pub mod Slots
 pub mod Tables

@@ -1,7 +1,9 @@
 -- The layout as the code has it: runs of CDFs of one length.
-use Rattle.std.specs.Prelude.{ℕ, ◌+◌, ◌*◌, ◌<◌, ◌≤◌, List, Bool, ◌&&◌, nat_eq, nat_le, map, slice_index_or}
+use Rattle.std.specs.Prelude.{◌≡◌, ℕ, ◌+◌, ◌*◌, ◌<◌, ◌≤◌, List, Bool, ◌&&◌, nat_eq, nat_le, map, slice_index_or}
 use Rattle.std.specs.List.{list_any}
 use Rattle.av1_cdf.specs.declared.run.Run.{Run}
+use Rattle.av1_cdf.specs.declared.run.Cell.{Cell}
+use Rattle.av1_cdf.specs.Slots.{cell_of}
 use Rattle.av1_cdf.specs.Layout.{Field, layout, count_in, length_in}
 
 abbrev pub run_of : Field → Run
@@ -32,3 +34,8 @@ pub record HasOrEnds (i k : ℕ) : Type 0 where
   pub run : i < 72
   pub from : (run_at i).place ≤ k
   pub to : k ≤ (run_at i).place + (run_at i).count * (run_at i).len
+
+-- what a walk over all places has of the one before a place: nothing before the first, and then its CDF
+pub record IsBefore (c : Cell) (k : ℕ) : Type 0 where
+  pub first : k ≡ 0 → c.place + c.len ≡ 0
+  pub last : (j : ℕ) → j + 1 ≡ k → c ≡ cell_of j

@@ -2,7 +2,7 @@
 use Rattle.std.specs.Prelude.{ℕ, ◌+◌, ◌-◌, ◌*◌, List, [], ◌∷◌, Bool, ◌&&◌, ◌||◌, nat_eq, nat_lt, nat_le, if◌then◌else◌, Option, Some, None, length, slice_index, slice_index_or, codes}
 use Rattle.std.specs.List.{list_all, list_any, range_with_len}
 use Rattle.av1_cdf.specs.Layout.{Field, layout, named, cell, count_in, length_in, size_of_context}
-use Rattle.av1_cdf.specs.Context.{is_count}
+use Rattle.av1_cdf.specs.Context.{is_count, uniform_numbers}
 
 -- a rule by its number, and whether it holds
 abbrev pub Check : Type 0
@@ -76,3 +76,7 @@ table_rules sets = (1, four_sets sets) ∷ (2, list_all valid_set sets) ∷ (3, 
 -- the set for a quantizer
 abbrev pub set_number : ℕ → ℕ
 set_number quantizer = if nat_le quantizer 20 then 0 else if nat_le quantizer 60 then 1 else if nat_le quantizer 120 then 2 else 3
+
+-- four sets in which all symbols are equally likely
+abbrev pub uniform_sets : List (List ℕ)
+uniform_sets = uniform_numbers ∷ uniform_numbers ∷ uniform_numbers ∷ uniform_numbers ∷ []

@@ -1,12 +1,17 @@
 // The numbers of a context.
-ghost use Rattle.std.specs.Prelude.{◌≡◌, ◌+◌, None, length};
-ghost use Rattle.av1_cdf.specs.Context.{contents, uniform_numbers, with_counts_reset};
+ghost use Rattle.std.specs.Prelude.{◌≡◌, ◌+◌, None, length, IfOk};
+ghost use Rattle.std.specs.Borrow.{Lends, sem, u16 as number, Array};
+ghost use Rattle.av1_cdf.specs.Context.{contents, with_contents, uniform_numbers, with_counts_reset};
+ghost use Rattle.av1_cdf.specs.contracts.cdf_context.CDFContext.{the_row};
 ghost use Rattle.av1_cdf.specs.Slots.{slot_of};
 ghost use Rattle.av1_cdf.specs.Tables.{first_broken, table_rules, set_at, set_number};
 
 use crate::cdf_offset::CDFOffset;
-use crate::run::{cell_in, run_with};
+use crate::numbers::NumberArray;
+use crate::run::{Cell, cell_with, run_with};
 use crate::tables::Tables;
+use av1_geometry::OutOfMemory;
+use std::alloc::Global;
 use std::fmt;
 use std::marker::Model;
 
@@ -17,9 +22,9 @@ pub(crate) const NUMBERS: usize = 5528;
 pub const CDF_LEN_MAX: usize = 16;
 
 /// All adaptive distributions of a tile, as a flat array of numbers.
-#[derive(Clone, Copy)]
+#[derive(Clone, Drop)]
 pub struct CDFContext {
-    numbers: [u16; NUMBERS],
+    pub(crate) numbers: NumberArray,
 }
 
 impl Model for CDFContext {
@@ -27,9 +32,9 @@ impl Model for CDFContext {
 
     ghost Value = { List ℕ };
 
-    ghost view = { λ c. c.numbers };
+    ghost view = { λ c. c.numbers.xs };
 
-    ghost inverse = { λ numbers. record { numbers = numbers } };
+    ghost inverse = { λ numbers. record { numbers = record { xs = numbers } } };
 }
 
 impl CDFContext {
@@ -49,7 +54,18 @@ impl CDFContext {
         ensures len { length result.now ≡ cdf.len }
         ensures whole { length self.now ≡ 5528 }
     {
-        &self.numbers[cdf.place..cdf.place + cdf.len]
+        &self.numbers.xs[cdf.place..cdf.place + cdf.len]
+    }
+
+    /// The numbers of a CDF, to be changed. All others stay.
+    #[tactic(auto, using(crate::proofs::Cells::slot_within))]
+    #[inline(always)]
+    pub fn values_mut(&mut self, cdf: CDFOffset) -> &mut [u16]
+        ensures* writes_back { sem 𝓛 (Lends the_row (Array number 0) self.entry result (with_contents self.old (slot_of cdf))) }
+        ensures value { result.now ≡ contents self.old (slot_of cdf) }
+        ensures len { length result.now ≡ cdf.len }
+    {
+        self.numbers.part_mut(cdf.place, cdf.place + cdf.len)
     }
 
     /// The context that a tile of this quantizer (`base_q_idx`) starts with: set 0 up to 20, 1 up to 60, 2 up to 120,
@@ -61,7 +77,16 @@ impl CDFContext {
         let set = tables.set(quantizer);
         let mut numbers = [0; NUMBERS];
         numbers.copy_from_slice(set);
-        CDFContext { numbers }
+        CDFContext {
+            numbers: NumberArray { xs: numbers },
+        }
+    }
+
+    // The numbers in a list of their own.
+    pub(crate) fn to_vec(&self, alloc: Global) -> Result<Vec<u16>, OutOfMemory>
+        ensures { IfOk result (λ v. v.items ≡ self.now) }
+    {
+        Ok(Vec::from_slice(alloc, &self.numbers.xs)?)
     }
 
     /// The context in which all symbols are equally likely, and all counts are 0.
@@ -70,14 +95,16 @@ impl CDFContext {
     {
         let mut numbers = [0; NUMBERS];
         write_uniform(&mut numbers);
-        CDFContext { numbers }
+        CDFContext {
+            numbers: NumberArray { xs: numbers },
+        }
     }
 
     /// Sets the count of every CDF to 0.
     pub fn reset_counts(&mut self)
         ensures { self.new ≡ with_counts_reset self.old }
     {
-        reset_counts(&mut self.numbers);
+        reset_counts(&mut self.numbers.xs);
     }
 }
 
@@ -86,9 +113,10 @@ fn write_uniform(numbers: &mut [u16])
     ensures { numbers.new ≡ uniform_numbers }
 {
     let mut run = 0;
+    let mut cell = Cell { place: 0, len: 0 };
     for k in 0..NUMBERS {
         run = run_with(run, k);
-        let cell = cell_in(run, k);
+        cell = cell_with(run, cell, k);
         numbers[k] = (32768 - 32768 * (k - cell.place + 1) / cell.len) as u16;
     }
 }
@@ -98,9 +126,10 @@ fn reset_counts(numbers: &mut [u16])
     ensures { numbers.new ≡ with_counts_reset numbers.old }
 {
     let mut run = 0;
+    let mut cell = Cell { place: 0, len: 0 };
     for k in 0..NUMBERS {
         run = run_with(run, k);
-        let cell = cell_in(run, k);
+        cell = cell_with(run, cell, k);
         if cell.ends_with(k) {
             numbers[k] = 0;
         }

@@ -5,8 +5,8 @@ ghost use Rattle.av1_cdf.specs.Layout.{is_slot};
 /// A CDF of the context: its first place and its length. These are always those of one CDF of the layout.
 #[derive(Clone, Copy)]
 pub struct CDFOffset {
-    pub(crate) place: usize,
-    pub(crate) len: usize,
+    pub place: usize,
+    pub len: usize,
     pub ghost is_slot: { IsTrue (is_slot place len) },
 }
 

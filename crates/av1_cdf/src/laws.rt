@@ -1,8 +1,8 @@
 // What holds of the layout, and of the contexts that a tile starts with.
-ghost use Rattle.std.specs.Prelude.{◌≡◌, ℕ, ◌+◌, ◌≤◌, ◌<◌, ◌⊎◌, List, None, IsTrue, slice_index};
+ghost use Rattle.std.specs.Prelude.{◌≡◌, ℕ, ◌+◌, ◌≤◌, ◌<◌, ◌⊎◌, List, None, IsTrue, length, slice_index};
 ghost use Rattle.av1_model.specs.Cdf.{IsCdf};
 ghost use Rattle.av1_cdf.specs.Layout.{Slot, layout, rises, named, length_in, slot, is_slot, cell};
-ghost use Rattle.av1_cdf.specs.Context.{contents, uniform_numbers};
+ghost use Rattle.av1_cdf.specs.Context.{contents, with_contents, uniform_numbers};
 ghost use Rattle.av1_cdf.specs.Tables.{first_broken, table_rules, set_at, set_number};
 
 /// The fields follow on one another without a gap up to the end of the context. Each CDF lies within the context, each of
@@ -21,4 +21,11 @@ pub fn law_of_starting()
     ensures tables { (sets : List (List ℕ)) (quantizer : ℕ) (s : Slot) → first_broken (table_rules sets) ≡ None →
         IsTrue (is_slot s.place s.len) → IsCdf (contents (set_at sets (set_number quantizer)) s) }
     ensures uniform { (s : Slot) → IsTrue (is_slot s.place s.len) → IsCdf (contents uniform_numbers s) }
+{}
+
+/// A CDF of a context that is written has the numbers written, and each other one stays.
+pub fn law_of_writing()
+    ensures size { (numbers ws : List ℕ) (s : Slot) → length (with_contents numbers s ws) ≡ length numbers }
+    ensures own { (numbers ws : List ℕ) (s : Slot) → IsTrue (is_slot s.place s.len) → length numbers ≡ 5528 → length ws ≡ s.len → contents (with_contents numbers s ws) s ≡ ws }
+    ensures others { (numbers ws : List ℕ) (s t : Slot) → IsTrue (is_slot s.place s.len) → IsTrue (is_slot t.place t.len) → length numbers ≡ 5528 → (s ≡ t) ⊎ (contents (with_contents numbers s ws) t ≡ contents numbers t) }
 {}

@@ -1,6 +1,6 @@
 // CDFs of one length, one after another, and the CDF that a place belongs to.
 ghost use Rattle.std.specs.Prelude.{◌≡◌, ◌<◌, ◌≤◌, ◌+◌, ◌*◌, ◌^◌, ◌&&◌, nat_eq, nat_le, IsTrue};
-ghost use Rattle.av1_cdf.specs.Runs.{run_at, has_run, Has, HasOrEnds};
+ghost use Rattle.av1_cdf.specs.Runs.{run_at, has_run, Has, HasOrEnds, IsBefore};
 ghost use Rattle.av1_cdf.specs.Slots.{cell_of};
 
 use crate::cdf_offset::CDFOffset;
@@ -57,19 +57,25 @@ pub(crate) fn run_with(run: usize, k: usize) -> usize
     }
 }
 
-/// The CDF that a place belongs to.
-#[tactic(auto, using(crate::proofs::Cells::cell_of_place))]
-pub(crate) fn cell_in(run: usize, k: usize) -> Cell
-    requires { Has run k }
+/// The CDF that a place belongs to, from that of the place before.
+#[tactic(auto, using(crate::proofs::Cells::cell_after, crate::proofs::Cells::cell_of_place))]
+#[inline(always)]
+pub(crate) fn cell_with(run: usize, before: Cell, k: usize) -> Cell
+    requires run { Has run k }
+    requires before { IsBefore before k }
+    requires k { k < 5528 }
     ensures is { result ≡ cell_of k }
     ensures from { result.place ≤ k }
     ensures to { k < result.place + result.len }
     ensures within { result.place + result.len ≤ 5528 }
 {
-    let at = run_at(run);
-    Cell {
-        place: at.place + (k - at.place) / at.len * at.len,
-        len: at.len,
+    if k < before.place + before.len {
+        before
+    } else {
+        Cell {
+            place: k,
+            len: run_at(run).len,
+        }
     }
 }
 

@@ -1,10 +1,10 @@
 // The tables of numbers that contexts are made of, one for each range of quantizers, and their rules.
-ghost use Rattle.std.specs.Prelude.{◌≡◌, None, ◌≤◌, ◌<◌, ◌+◌, ◌&&◌, ◌||◌, true, nat_eq, [], ◌∷◌, length, nat_le, nat_lt, option_map};
+ghost use Rattle.std.specs.Prelude.{◌≡◌, None, ◌≤◌, ◌<◌, ◌+◌, ◌&&◌, ◌||◌, true, nat_eq, [], ◌∷◌, length, nat_le, nat_lt, option_map, IfOk};
 ghost use Rattle.std.specs.List.{list_any};
 ghost use Rattle.av1_cdf.specs.Slots.{cell_of};
-ghost use Rattle.av1_cdf.specs.Tables.{first_broken, table_rules, set_at, set_number, number_fits, valid_set, is_coefficient, same_at, sets_agree};
+ghost use Rattle.av1_cdf.specs.Tables.{first_broken, table_rules, set_at, set_number, number_fits, valid_set, is_coefficient, same_at, sets_agree, uniform_sets};
 
-use crate::cdf_context::NUMBERS;
+use crate::cdf_context::{CDFContext, NUMBERS};
 use crate::layout::{
     ANGLE_DELTA_CDF, COEFF_BASE_CDF, COEFF_BASE_EOB_CDF, COEFF_BR_CDF, DC_SIGN_CDF,
     DEBLOCK_DELTA_CDF, DRL_CDFS, EOB_EXTRA_CDF, EOB_FLAG_CDF16, EOB_FLAG_CDF32, EOB_FLAG_CDF64,
@@ -12,12 +12,13 @@ use crate::layout::{
     INTER_TX_2_CDF, INTRA_TX_1_CDF, INTRA_TX_2_CDF, LRF_SWITCHABLE_CDF, PARTITION_CDF,
     SPATIAL_SEGMENTATION_CDFS, TXB_SKIP_CDF, TXFM_PARTITION_CDF,
 };
-use crate::run::{Cell, cell_in, run_with};
-use av1_geometry::Rule;
+use crate::run::{Cell, cell_with, run_with};
+use av1_geometry::{OutOfMemory, Rule};
+use std::alloc::Global;
 use std::marker::Model;
 
 /// The numbers of contexts, as four lists for the quantizers up to 20, 60, 120 and 255.
-#[derive(Drop)]
+#[derive(Debug, Drop)]
 pub struct Tables {
     pub sets: Vec<Vec<u16>>,
 }
@@ -31,6 +32,20 @@ impl Model for Tables {
 }
 
 impl Tables {
+    /// Four sets of the numbers of `CDFContext::uniform`.
+    pub fn uniform(alloc: Global) -> Result<Tables, OutOfMemory>
+        ensures { IfOk result (λ t. t ≡ uniform_sets) }
+    {
+        let fc = CDFContext::uniform();
+        let sets = vec![in alloc;
+            fc.to_vec(alloc)?,
+            fc.to_vec(alloc)?,
+            fc.to_vec(alloc)?,
+            fc.to_vec(alloc)?,
+        ]?;
+        Ok(Tables { sets })
+    }
+
     /// The set for a quantizer.
     pub(crate) fn set(&self, quantizer: u8) -> &[u16]
         requires { first_broken (table_rules self.now) ≡ None }
@@ -99,9 +114,10 @@ fn is_valid(set: &[u16]) -> bool
     ensures { result ≡ valid_set set.now }
 {
     let mut run = 0;
+    let mut cell = Cell { place: 0, len: 0 };
     for k in 0..NUMBERS {
         run = run_with(run, k);
-        let cell = cell_in(run, k);
+        cell = cell_with(run, cell, k);
         if !number_fits(set, k, cell) {
             return false;
         }
@@ -149,7 +165,7 @@ fn agree_at(a: &[u16], b: &[u16], c: &[u16], d: &[u16], k: usize) -> bool
     requires d { k < length d.now }
     ensures { result ≡ (is_coefficient k || same_at (a.now ∷ b.now ∷ c.now ∷ d.now ∷ []) k) }
 {
-    is_coefficient(k) || same_at(a[k], b[k], c[k], d[k])
+    same_at(a[k], b[k], c[k], d[k]) || is_coefficient(k)
 }
 
 #[tactic(auto, using(std::proofs::lemmas::Bool::Decides::nat_tests))]

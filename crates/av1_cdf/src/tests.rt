@@ -1,8 +1,12 @@
 // Worked values of the context, its fields by name and the rules of tables.
+ghost use Rattle.std.specs.Prelude.{◌≡◌, OnOk};
+ghost use Rattle.av1_cdf.specs.Log.{KeepsUndone};
+
 use crate::{
-    CDFContext, FieldMap, Tables, check_tables, default_nmv_context, law_of_layout, law_of_starting,
+    CDFContext, CDFContextLog, CDFOffset, FieldMap, Tables, check_tables, default_nmv_context,
+    law_of_layout, law_of_starting, law_of_writing,
 };
-use av1_geometry::Rule;
+use av1_geometry::{OutOfMemory, Rule};
 use std::alloc::Global;
 use std::test::Fail;
 
@@ -103,7 +107,91 @@ fn a_context_is_not_printed(rt: HostRuntime) -> Result<(), Fail> {
 fn vectors_start_as_in_rav1e(rt: HostRuntime) {
     law_of_layout();
     law_of_starting();
+    law_of_writing();
     let start = default_nmv_context();
     assert_eq!(rt; start.joints_cdf, [28672, 21504, 13440, 0]);
     assert_eq!(rt; start.comps[1].class0_cdf, [5120, 0]);
+}
+
+// Saves a CDF, and sets all its numbers to this one.
+fn overwrite(
+    context: &mut CDFContext,
+    log: &mut CDFContextLog,
+    cdf: CDFOffset,
+    number: u16,
+) -> Result<(), OutOfMemory>
+    ensures { OnOk result (KeepsUndone log.old log.new context.old context.new) }
+{
+    log.save(context, cdf)?;
+    context.values_mut(cdf).fill(number);
+    Ok(())
+}
+
+// Trials within trials, one of which is given up from within another.
+fn try_nested(
+    context: &mut CDFContext,
+    log: &mut CDFContextLog,
+    cdf: CDFOffset,
+    other: CDFOffset,
+) -> Result<(), OutOfMemory>
+    ensures { OnOk result (context.new ≡ context.old) }
+{
+    let first = log.checkpoint();
+    overwrite(context, log, cdf, 1)?;
+    let second = log.checkpoint();
+    overwrite(context, log, cdf, 2)?;
+    overwrite(context, log, other, 3)?;
+    log.rollback(context, &second);
+    overwrite(context, log, cdf, 4)?;
+    log.rollback(context, &second);
+    log.rollback(context, &first);
+    Ok(())
+}
+
+#[test]
+fn a_log_goes_back_to_what_the_context_was(rt: HostRuntime) -> Result<(), Fail> {
+    let mut context = CDFContext::uniform();
+    let before = context.numbers.xs;
+    let mut log = CDFContextLog::new(rt.alloc());
+    log.ready(2)?;
+    let start = log.checkpoint();
+    overwrite(&mut context, &mut log, CDFContext::comp_mode_cdf(4), 7)?;
+    overwrite(&mut context, &mut log, CDFContext::comp_ref_cdf(0, 0), 8)?;
+    assert_eq!(rt;
+        &context.numbers.xs[19..25],
+        [0, 7, 7, 8, 8, 16384].as_slice()
+    );
+    log.rollback(&mut context, &start);
+    assert!(rt; context.numbers.xs == before);
+    log.clear();
+    Ok(())
+}
+
+#[test]
+fn checkpoints_stand_within_one_another(rt: HostRuntime) -> Result<(), Fail> {
+    let mut context = CDFContext::uniform();
+    let before = context.numbers.xs;
+    let mut log = CDFContextLog::new(rt.alloc());
+    let cdf = CDFContext::skip_cdfs(1);
+    let first = log.checkpoint();
+    overwrite(&mut context, &mut log, cdf, 1)?;
+    let second = log.checkpoint();
+    overwrite(&mut context, &mut log, cdf, 2)?;
+    overwrite(&mut context, &mut log, CDFContext::skip_cdfs(2), 3)?;
+    log.rollback(&mut context, &second);
+    assert_eq!(rt;
+        &context.numbers.xs[411..416],
+        [0, 1, 1, 16384, 0].as_slice()
+    );
+    overwrite(&mut context, &mut log, cdf, 4)?;
+    log.rollback(&mut context, &second);
+    assert_eq!(rt;
+        &context.numbers.xs[411..416],
+        [0, 1, 1, 16384, 0].as_slice()
+    );
+    overwrite(&mut context, &mut log, cdf, 5)?;
+    log.rollback(&mut context, &first);
+    try_nested(&mut context, &mut log, cdf, CDFContext::skip_cdfs(0))?;
+    assert!(rt; context.numbers.xs == before);
+    Ok(())
 }

@@ -4,11 +4,11 @@ use Rattle.std.specs.Prelude.{if◌then◌else◌}
 use Rattle.std.specs.List.{range_with_len}
 use Rattle.std.proofs.Common.{map}
 use Rattle.av1_cdf.specs.Context.{is_count, with_counts_reset}
-use Rattle.av1_cdf.proofs.Cells.{first_run}
+use Rattle.av1_cdf.proofs.Cells.{first_run, before_first}
 use Rattle.av1_cdf.proofs.cdf_context.reset_counts.Goals as goal
 
 pub loop-k-init : goal.loop-k-init
-loop-k-init c = record { run = first_run; written = λ j h. absurd (omega arith); rest = λ j h. refl }
+loop-k-init c = record { run = first_run; cell = before_first; written = λ j h. absurd (omega arith); rest = λ j h. refl }
 
 pub returns : goal.returns
 unfolding with_counts_reset

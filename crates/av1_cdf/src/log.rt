@@ -1,0 +1,129 @@
+// What to put back into a context, to undo what was done to it.
+ghost use Rattle.std.specs.Prelude.{◌≡◌, ℕ, List, ◌+◌, ◌≤◌, ◌<◌, IsOk, OnOk, OnErr};
+ghost use Rattle.av1_cdf.specs.Context.{contents, with_contents};
+ghost use Rattle.av1_cdf.specs.Slots.{slot_of};
+ghost use Rattle.av1_cdf.specs.Log.{saves_of, stored, spare, reach, IsReached, undone, KeepsUndone, IsSaveOf, restored};
+ghost use Rattle.av1_cdf.specs.declared.log.CDFContextCheckpoint.{CDFContextCheckpoint};
+
+use crate::cdf_context::{CDF_LEN_MAX, CDFContext};
+use crate::cdf_offset::CDFOffset;
+use av1_geometry::OutOfMemory;
+use std::alloc::Global;
+
+/// The numbers that a CDF had.
+#[derive(Clone, Copy)]
+pub(crate) struct Save {
+    pub(crate) cdf: CDFOffset,
+    // What stands past the length of the CDF is not read.
+    pub(crate) numbers: [u16; CDF_LEN_MAX],
+}
+
+impl Save {
+    #[tactic(auto, using(crate::proofs::Undoing::slot_fits))]
+    #[inline(always)]
+    fn new(fc: &CDFContext, cdf: CDFOffset) -> Save
+        ensures { IsSaveOf fc.now cdf result }
+    {
+        let mut numbers = [0; CDF_LEN_MAX];
+        numbers[..cdf.len].copy_from_slice(fc.values_of(cdf));
+        Save { cdf, numbers }
+    }
+
+    // Puts the numbers back.
+    #[tactic(auto, using(crate::proofs::Undoing::slot_fits))]
+    #[inline(always)]
+    fn restore(&self, fc: &mut CDFContext)
+        ensures { fc.new ≡ restored self.now fc.old }
+    {
+        fc.values_mut(self.cdf)
+            .copy_from_slice(&self.numbers[..self.cdf.len]);
+    }
+}
+
+/// The saves of a context, the oldest first.
+#[derive(Drop)]
+pub struct CDFContextLog {
+    saves: Vec<Save>,
+}
+
+/// A moment of a log, to which `rollback` goes back.
+#[derive(Clone, Copy, Debug)]
+pub struct CDFContextCheckpoint {
+    // How many saves there were.
+    saves: usize,
+}
+
+impl CDFContextLog {
+    /// A log with no saves.
+    pub fn new(alloc: Global) -> CDFContextLog
+        ensures { stored result ≡ 0 }
+    {
+        CDFContextLog {
+            saves: Vec::new(alloc),
+        }
+    }
+
+    /// Saves the numbers of a CDF before they change: whatever is then left there, each checkpoint that the log reaches
+    /// stands for the context that it stood for. A refusal leaves the log as it was.
+    #[inline(always)]
+    pub fn save(&mut self, fc: &CDFContext, cdf: CDFOffset) -> Result<(), OutOfMemory>
+        ensures ok { OnOk result ((ws : List ℕ) → KeepsUndone self.old self.new fc.now (with_contents fc.now (slot_of cdf) ws)) }
+        ensures err { OnErr result (saves_of self.new ≡ saves_of self.old) }
+        ensures room { 0 < spare self.old → IsOk result }
+        ensures spare { spare self.old ≤ spare self.new + 1 }
+    {
+        self.saves.push(Save::new(fc, cdf))?;
+        Ok(())
+    }
+
+    /// Makes room for this many saves, so that as many cannot fail. The saves stay, also on a refusal.
+    #[inline]
+    pub fn ready(&mut self, pushes: usize) -> Result<(), OutOfMemory>
+        ensures same { saves_of self.new ≡ saves_of self.old }
+        ensures ready { OnOk result (pushes ≤ spare self.new) }
+        ensures room { pushes ≤ spare self.old → IsOk result }
+        ensures spare { spare self.old ≤ spare self.new }
+    {
+        self.saves.reserve(pushes)?;
+        Ok(())
+    }
+
+    /// A checkpoint of now, which stands for the context as it is.
+    #[inline(always)]
+    pub fn checkpoint(&self) -> CDFContextCheckpoint
+        ensures reached { IsReached self.now result }
+        ensures reach { reach result ≡ stored self.now }
+        ensures undone { (context : List ℕ) → undone self.now context result ≡ context }
+    {
+        CDFContextCheckpoint {
+            saves: self.saves.len(),
+        }
+    }
+
+    /// Makes the context what the checkpoint stands for, and forgets the saves past it. Each checkpoint that reaches no
+    /// further stands for what it stood for.
+    pub fn rollback(&mut self, fc: &mut CDFContext, checkpoint: &CDFContextCheckpoint)
+        requires { IsReached self.old checkpoint.now }
+        ensures context { fc.new ≡ undone self.old fc.old checkpoint.now }
+        ensures stored { stored self.new ≡ reach checkpoint.now }
+        ensures reached { (c : CDFContextCheckpoint) → reach c ≤ reach checkpoint.now → IsReached self.new c }
+        ensures kept { (c : CDFContextCheckpoint) → reach c ≤ reach checkpoint.now → undone self.new fc.new c ≡ undone self.old fc.old c }
+        ensures spare { spare self.old ≤ spare self.new }
+    {
+        let mut left = self.saves.len();
+        while left > checkpoint.saves {
+            left -= 1;
+            let save = self.saves[left];
+            save.restore(fc);
+        }
+        self.saves.truncate(checkpoint.saves);
+    }
+
+    /// Forgets all saves.
+    pub fn clear(&mut self)
+        ensures stored { stored self.new ≡ 0 }
+        ensures spare { spare self.old ≤ spare self.new }
+    {
+        self.saves.clear();
+    }
+}
