@@ -1,12 +1,13 @@
 -- How many bits a code takes at most, and how far flat bits move a writer.
-use Rattle.std.proofs.Common.{ℕ, zero, suc, ◌+◌, ◌-◌, ◌*◌, ◌^◌, ◌<◌, ◌≤◌, List, [], ◌∷◌, Bool, true, false, length, replicate, ap, arith, inl, inr, length-append}
+use Rattle.std.proofs.Common.{ℕ, zero, suc, ◌+◌, ◌-◌, ◌*◌, ◌^◌, ◌<◌, ◌≤◌, List, [], ◌∷◌, Bool, true, false, length, replicate, ap, arith, inl, inr, length-append, ℤ, pos, ◌-ℤ◌, ◌≤ℤ◌, unsigned_abs}
 use Rattle.std.proofs.lemmas.Bool.{cases_lt}
+use Rattle.std.proofs.lemmas.Int.{ints}
 use Rattle.std.proofs.lemmas.List.{length-map, length-replicate}
 use Rattle.std.proofs.lemmas.List.Elements.{All-nil, All-cons}
 use Rattle.std.proofs.Math.Pow.{pow_mono}
 use Rattle.std.specs.List.{All}
 use Rattle.av1_model.specs.Bits.{bits_of}
-use Rattle.av1_model.specs.Codes.{binary_digits, short_words, quniform, subexp_step, subexp_from, subexp}
+use Rattle.av1_model.specs.Codes.{binary_digits, short_words, quniform, subexp_step, subexp_from, subexp, recenter_finite, refsubexp}
 use Rattle.av1_model.specs.Interval.{IsToken}
 use Rattle.av1_model.specs.Position.{Position, advance_all}
 use Rattle.av1_model.proofs.BitsNumbers.{length-bits_of}
@@ -14,7 +15,7 @@ use Rattle.av1_model.proofs.CodesDigits.{binary_digits-few}
 use Rattle.av1_model.proofs.CodesQuniform.{quniform-one, quniform-short, quniform-number}
 use Rattle.av1_model.proofs.CodesSubexp.{step-last, step-low, step-high}
 use Rattle.av1_model.proofs.Positions.{advance_all_shift}
-use Rattle.av1_ec.specs.Flat.{bool_token, flat_tokens, golomb}
+use Rattle.av1_ec.specs.Flat.{bool_token, flat_tokens, golomb, refsubexp_between}
 use Rattle.av1_ec.specs.Writing.{IsPosition}
 use Rattle.av1_ec.proofs.Words.{digits_of_word}
 
@@ -75,3 +76,10 @@ pub subexp_length : (n k v : ℕ) → n ≤ 2 ^ 24 → k ≤ 16 → length (sube
 unfolding subexp
 subexp_length n k v few width =
     step_length k n v 49 (subexp_from n k (n - 2 ^ k) (v - 2 ^ k)) few (omega arith) (omega (arith, width)) (λ l m. omega (arith, from_length n k (n - 2 ^ k) (v - 2 ^ k) (omega (arith, few)) (omega (arith, width))))
+
+pub refsubexp_length : (n k r v : ℕ) → n ≤ 2 ^ 24 → k ≤ 16 → length (refsubexp n k r v) ≤ 49
+refsubexp_length n k r v few width = subexp_length n k (recenter_finite n r v) few width
+
+pub between_length : (low high r v : ℤ) (k : ℕ) → low ≤ℤ high → (high -ℤ low) ≤ℤ pos (2 ^ 24) → k ≤ 16 → length (refsubexp_between low high k r v) ≤ 49
+between_length low high r v k order few width =
+    refsubexp_length (unsigned_abs (high -ℤ low)) k (unsigned_abs (r -ℤ low)) (unsigned_abs (v -ℤ low)) (omega (arith, ints)) width

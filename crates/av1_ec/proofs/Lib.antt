@@ -1,7 +1,12 @@
+pub mod CodeTrees
 pub mod Costs
+pub mod Counting
 pub mod Encoding
 pub mod Ending
 pub mod FlatBits
 pub mod Lengths
+pub mod OneRate
+pub mod Recording
+pub mod Replaying
 pub mod SignedRange
 pub mod Words

@@ -1,5 +1,11 @@
 pub mod Checkpoint
+pub mod CodeTrees
+pub mod Counter
+pub mod CounterLaw
 pub mod Encoder
 pub mod EncoderLaw
 pub mod Flat
+pub mod Rate
+pub mod Recorder
+pub mod RecorderLaw
 pub mod Writing

@@ -1,10 +1,11 @@
 // The encoder: entries of a byte and a carry, and a window of the low end.
-ghost use Rattle.std.specs.Prelude.{◌≡◌, ◌-◌, ◌/◌, IfOk, length, vec_len, vec_capacity};
+ghost use Rattle.std.specs.Prelude.{◌≡◌, ◌+◌, ◌-◌, ◌/◌, IfOk, length, vec_len, vec_capacity};
 ghost use Rattle.av1_model.specs.Interval.{whole, final_bytes};
 ghost use Rattle.av1_model.specs.Position.{encoder_at, interval_of};
 ghost use Rattle.av1_ec.specs.Encoder.{weight_of, encoder_position, IsEncoding};
 ghost use Rattle.av1_ec.specs.Checkpoint.{IsBeginning, beginning_position};
 ghost use Rattle.av1_ec.specs.EncoderLaw.{position_valid};
+ghost use Rattle.av1_ec.specs.Rate.{tell_at};
 
 use crate::precarry::{make_room, push_end, sum_carries};
 use crate::storage::{Storage, StorageBackend, Tally, WriterCheckpoint};
@@ -45,8 +46,10 @@ impl WriterEncoder {
 impl WriterBase<WriterEncoder> {
     /// The bytes of all that was coded: the least odd multiple of 2^14 in the interval, in units of its range, with zero
     /// bits that fill the last byte. What follows the bytes has to be zero bits too, or the point may leave the interval.
+    /// Where no fake bits were added, they are as many bits as `tell` says, in whole bytes.
     pub fn done(self) -> Result<Vec<u8>, OutOfMemory>
-        ensures { IfOk result (λ v. v.items ≡ final_bytes (interval_of (⟦<WriterBase<WriterEncoder> as StorageBackend>⟧.position self))) }
+        ensures bytes { IfOk result (λ v. v.items ≡ final_bytes (interval_of (⟦<WriterBase<WriterEncoder> as StorageBackend>⟧.position self))) }
+        ensures told { let p = ⟦<WriterBase<WriterEncoder> as StorageBackend>⟧.position self in IfOk result (λ v. p.fake ≡ 0 → length v.items ≡ (tell_at p + 7) / 8) }
     {
         let weight = self.weight();
         let WriterBase {
@@ -75,9 +78,10 @@ impl StorageBackend for WriterBase<WriterEncoder> {
     #[inline(always)]
     fn store(&mut self, fl: u16, fh: u16, nms: u16) -> Result<(), OutOfMemory> {
         let (above, width) = lr_compute(self.rng, fl, fh, nms);
-        let weight = self.weight();
+        let mut weight = self.weight();
+        let mut low = self.s.low + above;
         let d = width.leading_zeros();
-        let (low, weight) = make_room(&mut self.s.precarry, self.s.low + above, weight, d)?;
+        make_room(&mut self.s.precarry, &mut low, &mut weight, d)?;
         self.s.low = low << d;
         self.rng = width << d;
         self.cnt = count_of(weight + d);

@@ -1,5 +1,5 @@
 // Bits that are stored as symbols, each as likely as not.
-ghost use Rattle.std.specs.Prelude.{◌≡◌, ◌+◌, ◌^◌, ◌<◌, ◌≤◌, IsOk, OnOk, OnErr};
+ghost use Rattle.std.specs.Prelude.{◌≡◌, ◌+◌, ◌^◌, ◌<◌, ◌≤◌, length, IsOk, OnOk, OnErr};
 ghost use Rattle.av1_ec.specs.Checkpoint.{KeepsCheckpoints};
 ghost use Rattle.av1_ec.specs.Flat.{bool_token, flat_tokens};
 ghost use Rattle.av1_model.specs.Bits.{bits_of};
@@ -30,6 +30,8 @@ pub(crate) fn store_word<B: StorageBackend>(w: &mut B, word: Word) -> Result<(),
     requires { (advance_all (B.position w.old) (flat_tokens (bits_of word.len word.number))).shift ≤ 2 ^ 28 + 2 ^ 24 }
     ensures ok { OnOk result (B.position w.new ≡ advance_all (B.position w.old) (flat_tokens (bits_of word.len word.number))) }
     ensures err { OnErr result (B.position w.new ≡ B.position w.old) }
+    ensures room { length (bits_of word.len word.number) ≤ B.spare w.old → IsOk result }
+    ensures spare { B.spare w.old ≤ B.spare w.new + length (bits_of word.len word.number) }
     ensures kept { KeepsCheckpoints B.stored B.IsReached B.position_at w.old w.new }
 {
     w.ready(word.len as usize)?;

@@ -14,21 +14,29 @@
 //! - `writer_base`: the range, the count and the fake bits over a storage
 //! - `encoder`: the storage that writes the bytes
 //! - `precarry`: its entries of a byte and a carry, which leave a window and are summed at the end
+//! - `recorder`: the storage that keeps the tokens, and their replay into another writer
+//! - `counter`: the storage that keeps no more than how many bits there are
 //! - `frac`: eighths of a bit
 //! - `flat`: bits that are stored as symbols, and `word`: the codes' words
-//! - `laws`: how long the codes are
+//! - `adaptive`: a symbol by a CDF of a context, which learns from it
+//! - `laws`: how long the codes are, and how they are read back; `rates`: that all writers tell the same
 //! - `cdf`: how a distribution learns, and what its symbols have of 512
 //!
 //! Memory: a storing call may answer `OutOfMemory`, and then the position is as it was. `ready(n)` makes the spare at
-//! least n, and a store that begins with a spare succeeds and lowers it by at most one.
+//! least n, and a store that begins with a spare succeeds and lowers it by at most one. So does a code whose bits are no
+//! more than the spare, and it lowers it by at most its bits.
 #![tactic(auto)]
 
+mod adaptive;
 mod cdf;
+mod counter;
 mod encoder;
 mod flat;
 mod frac;
 mod laws;
 mod precarry;
+mod rates;
+mod recorder;
 mod storage;
 #[cfg(test)]
 mod tests;
@@ -37,9 +45,12 @@ mod writer;
 mod writer_base;
 
 pub use cdf::{cdf_to_pdf, update_cdf};
+pub use counter::WriterCounter;
 pub use encoder::WriterEncoder;
 pub use frac::OD_BITRES;
-pub use laws::law_of_lengths;
+pub use laws::{law_of_code_trees, law_of_flat_paths, law_of_lengths};
+pub use rates::{law_of_counters, law_of_one_rate, law_of_recorders, law_of_replaying};
+pub use recorder::WriterRecorder;
 pub use storage::{Storage, StorageBackend, Tally, WriterCheckpoint};
 pub use writer::Writer;
 pub use writer_base::WriterBase;

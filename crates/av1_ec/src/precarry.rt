@@ -9,52 +9,54 @@ ghost use Rattle.av1_ec.specs.Encoder.{HasRoom};
 use av1_geometry::OutOfMemory;
 use std::alloc::Global;
 
-// Lets entries leave the window until it has room for `d` more bits; what is left of the low end, and its new weight.
+// Lets entries leave the window until it has room for `d` more bits: what is left of the low end, and its new weight.
 #[inline(always)]
 pub(crate) fn make_room(
     precarry: &mut Vec<u16>,
-    low: u32,
-    weight: u32,
+    low: &mut u32,
+    weight: &mut u32,
     d: u32,
-) -> Result<(u32, u32), OutOfMemory>
-    requires least { 15 ≤ weight }
-    requires most { weight ≤ 23 }
+) -> Result<(), OutOfMemory>
+    requires least { 15 ≤ weight.old }
+    requires most { weight.old ≤ 23 }
     requires bits { d ≤ 13 }
-    requires low { low < 2 ^ (weight + 1) }
+    requires low { low.old < 2 ^ (weight.old + 1) }
     requires carries { All (λ e. e < 512) precarry.old.items }
-    ensures ok { IfOk result (λ r. HasRoom precarry.old.items precarry.new.items low weight d r.0 r.1) }
+    ensures ok { OnOk result (HasRoom precarry.old.items precarry.new.items low.old weight.old d low.new weight.new) }
     ensures err { OnErr result (precarry.new.items ≡ precarry.old.items) }
     ensures room { vec_len precarry.old + 2 ≤ vec_capacity precarry.old → IsOk result }
     ensures entries { vec_len precarry.new ≤ vec_len precarry.old + 2 }
     ensures begins { take (vec_len precarry.old) precarry.new.items ≡ precarry.old.items }
     ensures capacity { vec_capacity precarry.old ≤ vec_capacity precarry.new }
 {
-    if weight + d < 24 {
-        return Ok((low, weight));
+    if *weight + d < 24 {
+        return Ok(());
     }
     precarry.reserve(2)?;
-    if weight + d < 32 {
-        return Ok(leave(precarry, low, weight));
+    if *weight + d < 32 {
+        leave(precarry, low, weight);
+        return Ok(());
     }
-    let (low, weight) = leave(precarry, low, weight);
-    Ok(leave(precarry, low, weight))
+    leave(precarry, low, weight);
+    leave(precarry, low, weight);
+    Ok(())
 }
 
-// The top of the window leaves it as an entry; what is left of the low end, and its weight.
+// The top of the window leaves it as an entry: what is left of the low end, and its weight.
 #[inline(always)]
-fn leave(precarry: &mut Vec<u16>, low: u32, weight: u32) -> (u32, u32)
-    requires least { 8 ≤ weight }
-    requires most { weight ≤ 23 }
-    requires low { low < 2 ^ (weight + 1) }
+fn leave(precarry: &mut Vec<u16>, low: &mut u32, weight: &mut u32)
+    requires least { 8 ≤ weight.old }
+    requires most { weight.old ≤ 23 }
+    requires low { low.old < 2 ^ (weight.old + 1) }
     requires room { vec_len precarry.old < vec_capacity precarry.old }
-    ensures entries { precarry.new.items ≡ precarry.old.items ++ (low / 2 ^ (weight - 8)) ∷ [] }
-    ensures low { result.0 ≡ low % 2 ^ (weight - 8) }
-    ensures weight { result.1 ≡ weight - 8 }
+    ensures entries { precarry.new.items ≡ precarry.old.items ++ (low.old / 2 ^ (weight.old - 8)) ∷ [] }
+    ensures low { low.new ≡ low.old % 2 ^ (weight.old - 8) }
+    ensures weight { weight.new ≡ weight.old - 8 }
     ensures capacity { vec_capacity precarry.old ≤ vec_capacity precarry.new }
 {
-    let weight = weight - 8;
-    let _ = precarry.push((low >> weight) as u16);
-    (low & ((1 << weight) - 1), weight)
+    *weight -= 8;
+    let _ = precarry.push((*low >> *weight) as u16);
+    *low &= (1 << *weight) - 1;
 }
 
 // Pushes what `done` rounds the window to, as one entry, or as two where the window is 23 bits wide.

@@ -69,10 +69,12 @@ pub trait StorageBackend {
         ensures spare { spare self.old ≤ spare self.new + 1 }
         ensures kept { KeepsCheckpoints stored IsReached position_at self.old self.new };
 
-    /// Makes room for this many tokens, so that as many stores cannot fail. The position stays, also on a refusal.
+    /// Makes room for this many tokens, so that as many stores cannot fail. Where the room is there it does not fail. The
+    /// position stays, also on a refusal.
     fn ready(&mut self, tokens: usize) -> Result<(), OutOfMemory>
         ensures same { position self.new ≡ position self.old }
         ensures ready { OnOk result (tokens ≤ spare self.new) }
+        ensures room { tokens ≤ spare self.old → IsOk result }
         ensures spare { spare self.old ≤ spare self.new }
         ensures kept { KeepsCheckpoints stored IsReached position_at self.old self.new };
 

@@ -1,22 +1,28 @@
 // The calls that are the same for every storage.
 ghost use Rattle.std.specs.Prelude.{◌≡◌, ℕ, ◌+◌, ◌*◌, ◌/◌, ◌^◌, ◌<◌, ◌≤◌, length, nat_eq, max, pos, ◌-ℤ◌, ◌≤ℤ◌, ◌<ℤ◌, IsOk, OnOk, OnErr};
+ghost use Rattle.av1_cdf.specs.Context.{contents, with_contents};
+ghost use Rattle.av1_cdf.specs.Log.{KeepsUndone, saves_of, spare as log_spare};
+ghost use Rattle.av1_cdf.specs.Slots.{slot_of};
 ghost use Rattle.av1_ec.specs.Flat.{bool_token, flat_tokens, golomb, refsubexp_between};
 ghost use Rattle.av1_model.specs.Bits.{bits_of};
 ghost use Rattle.av1_model.specs.Codes.{quniform, subexp, refsubexp};
-ghost use Rattle.av1_model.specs.Cdf.{IsCdf, token_of};
+ghost use Rattle.av1_model.specs.Cdf.{IsCdf, adapt, token_of};
 ghost use Rattle.av1_model.specs.Eighths.{eighths};
 ghost use Rattle.av1_model.specs.Interval.{narrow};
 ghost use Rattle.av1_model.specs.Position.{Position, advance, advance_all, interval_of};
 ghost use Rattle.av1_ec.specs.Checkpoint.{reach, KeepsCheckpoints};
 ghost use Rattle.av1_ec.specs.declared.storage.WriterCheckpoint.{WriterCheckpoint};
+ghost use Rattle.av1_ec.specs.Rate.{tell_at, tell_frac_at};
 ghost use Rattle.av1_ec.specs.Writing.{IsPosition, with_fake};
 ghost use Rattle.std.proofs.Common.{rules};
 
+use crate::adaptive::store_and_adapt;
 use crate::flat::store_word;
 use crate::frac::{log_eighths, symbol_eighths};
 use crate::storage::{Storage, StorageBackend, WriterCheckpoint};
 use crate::word::{Word, golomb_word, quniform_word, refsubexp_word, signed_word, subexp_word};
 use crate::writer_base::{WriterBase, token};
+use av1_cdf::{CDFContext, CDFContextLog, CDFOffset};
 use av1_geometry::OutOfMemory;
 
 /// A writer of symbols, as rav1e's `Writer` of `src/ec.rs`.
@@ -48,6 +54,29 @@ pub trait Writer {
         ensures spare { spare self.old ≤ spare self.new + 1 }
         ensures kept { KeepsCheckpoints stored IsReached position_at self.old self.new };
 
+    /// Codes symbol `s` by a CDF of a context, which then learns from it, and saves in the log what the CDF was. The other
+    /// CDFs stay. A refusal leaves the position, the context and the log's saves as they were.
+    fn symbol_with_update(
+        &mut self,
+        s: u32,
+        cdf: CDFOffset,
+        log: &mut CDFContextLog,
+        fc: &mut CDFContext,
+    ) -> Result<(), OutOfMemory>
+        requires cdf { IsCdf (contents fc.old (slot_of cdf)) }
+        requires s { s < cdf.len }
+        requires shift { (advance (position self.old) (token_of (contents fc.old (slot_of cdf)) s)).shift ≤ 2 ^ 28 + 2 ^ 24 }
+        ensures ok { OnOk result (position self.new ≡ advance (position self.old) (token_of (contents fc.old (slot_of cdf)) s)) }
+        ensures err { OnErr result (position self.new ≡ position self.old) }
+        ensures adapted { OnOk result (fc.new ≡ with_contents fc.old (slot_of cdf) (adapt (contents fc.old (slot_of cdf)) s)) }
+        ensures same { OnErr result (fc.new ≡ fc.old) }
+        ensures undone { OnOk result (KeepsUndone log.old log.new fc.old fc.new) }
+        ensures unsaved { OnErr result (saves_of log.new ≡ saves_of log.old) }
+        ensures room { 0 < spare self.old → 0 < log_spare log.old → IsOk result }
+        ensures spare { spare self.old ≤ spare self.new + 1 }
+        ensures log_spare { log_spare log.old ≤ log_spare log.new + 1 }
+        ensures kept { KeepsCheckpoints stored IsReached position_at self.old self.new };
+
     /// Codes a bool that is true `f` times in 32768. A refusal leaves the position as it was.
     fn bool(&mut self, val: bool, f: u16) -> Result<(), OutOfMemory>
         requires some { 0 < f }
@@ -76,6 +105,8 @@ pub trait Writer {
         requires shift { (advance_all (position self.old) (flat_tokens (bits_of bits s))).shift ≤ 2 ^ 28 + 2 ^ 24 }
         ensures ok { OnOk result (position self.new ≡ advance_all (position self.old) (flat_tokens (bits_of bits s))) }
         ensures err { OnErr result (position self.new ≡ position self.old) }
+        ensures room { bits ≤ spare self.old → IsOk result }
+        ensures spare { spare self.old ≤ spare self.new + bits }
         ensures kept { KeepsCheckpoints stored IsReached position_at self.old self.new };
 
     /// Codes `level` in the Exp-Golomb code, all or none.
@@ -84,6 +115,8 @@ pub trait Writer {
         requires shift { (advance_all (position self.old) (flat_tokens (golomb level))).shift ≤ 2 ^ 28 + 2 ^ 24 }
         ensures ok { OnOk result (position self.new ≡ advance_all (position self.old) (flat_tokens (golomb level))) }
         ensures err { OnErr result (position self.new ≡ position self.old) }
+        ensures room { length (golomb level) ≤ spare self.old → IsOk result }
+        ensures spare { spare self.old ≤ spare self.new + length (golomb level) }
         ensures kept { KeepsCheckpoints stored IsReached position_at self.old self.new };
 
     /// Codes `v`, one of `n` values, in the quasi-uniform code, all or none: NS(n) of the AV1 specification.
@@ -93,6 +126,8 @@ pub trait Writer {
         requires shift { (advance_all (position self.old) (flat_tokens (quniform n v))).shift ≤ 2 ^ 28 + 2 ^ 24 }
         ensures ok { OnOk result (position self.new ≡ advance_all (position self.old) (flat_tokens (quniform n v))) }
         ensures err { OnErr result (position self.new ≡ position self.old) }
+        ensures room { length (quniform n v) ≤ spare self.old → IsOk result }
+        ensures spare { spare self.old ≤ spare self.new + length (quniform n v) }
         ensures kept { KeepsCheckpoints stored IsReached position_at self.old self.new };
 
     /// Codes `v`, one of `n` values, in the subexponential code with first width `k`, all or none.
@@ -103,6 +138,8 @@ pub trait Writer {
         requires shift { (advance_all (position self.old) (flat_tokens (subexp n k v))).shift ≤ 2 ^ 28 + 2 ^ 24 }
         ensures ok { OnOk result (position self.new ≡ advance_all (position self.old) (flat_tokens (subexp n k v))) }
         ensures err { OnErr result (position self.new ≡ position self.old) }
+        ensures room { length (subexp n k v) ≤ spare self.old → IsOk result }
+        ensures spare { spare self.old ≤ spare self.new + length (subexp n k v) }
         ensures kept { KeepsCheckpoints stored IsReached position_at self.old self.new };
 
     /// Codes `v`, one of `mx` values, by its distance from `r` in the subexponential code, all or none.
@@ -120,6 +157,8 @@ pub trait Writer {
         requires shift { (advance_all (position self.old) (flat_tokens (refsubexp mx k r v))).shift ≤ 2 ^ 28 + 2 ^ 24 }
         ensures ok { OnOk result (position self.new ≡ advance_all (position self.old) (flat_tokens (refsubexp mx k r v))) }
         ensures err { OnErr result (position self.new ≡ position self.old) }
+        ensures room { length (refsubexp mx k r v) ≤ spare self.old → IsOk result }
+        ensures spare { spare self.old ≤ spare self.new + length (refsubexp mx k r v) }
         ensures kept { KeepsCheckpoints stored IsReached position_at self.old self.new };
 
     /// Codes `v`, a number from `low` on and below `high`, by its distance from `r` in the subexponential code, all or none.
@@ -140,6 +179,8 @@ pub trait Writer {
         requires shift { (advance_all (position self.old) (flat_tokens (refsubexp_between low high k r v))).shift ≤ 2 ^ 28 + 2 ^ 24 }
         ensures ok { OnOk result (position self.new ≡ advance_all (position self.old) (flat_tokens (refsubexp_between low high k r v))) }
         ensures err { OnErr result (position self.new ≡ position self.old) }
+        ensures room { length (refsubexp_between low high k r v) ≤ spare self.old → IsOk result }
+        ensures spare { spare self.old ≤ spare self.new + length (refsubexp_between low high k r v) }
         ensures kept { KeepsCheckpoints stored IsReached position_at self.old self.new };
 
     /// What `write_quniform` takes, in eighths of a bit.
@@ -176,7 +217,7 @@ pub trait Writer {
     /// How many bits the symbols take so far: those that were shifted out, one more, and the whole fake bits. It is at
     /// most 2^28 + 2^24 + 2^20 + 1.
     fn tell(&self) -> u32
-        ensures { result ≡ (position self.now).shift + 1 + (position self.now).fake / 256 };
+        ensures { result ≡ tell_at (position self.now) };
 
     /// A checkpoint of now.
     fn checkpoint(&self) -> WriterCheckpoint
@@ -198,7 +239,7 @@ pub trait Writer {
     /// How many eighths of a bit the symbols take so far. The fake bits are counted twice, whole ones as eighths and all of
     /// them as 256ths, as in rav1e.
     fn tell_frac(&self) -> u32
-        ensures { let p = position self.now in result ≡ eighths (interval_of p) + 8 * (p.fake / 256) + p.fake };
+        ensures { result ≡ tell_frac_at (position self.now) };
 
     /// How many eighths of a bit symbol `s` would take here, by a CDF of as many symbols as it has numbers.
     fn symbol_bits(&self, s: u32, cdf: &[u16]) -> u32
@@ -237,6 +278,17 @@ where
     fn symbol(&mut self, s: u32, cdf: &[u16]) -> Result<(), OutOfMemory> {
         let (fl, fh, nms) = token(s as usize, cdf);
         self.store(fl, fh, nms)
+    }
+
+    #[inline(always)]
+    fn symbol_with_update(
+        &mut self,
+        s: u32,
+        cdf: CDFOffset,
+        log: &mut CDFContextLog,
+        fc: &mut CDFContext,
+    ) -> Result<(), OutOfMemory> {
+        store_and_adapt(self, s, cdf, log, fc)
     }
 
     #[inline(always)]

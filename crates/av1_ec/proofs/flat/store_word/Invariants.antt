@@ -1,4 +1,4 @@
-use Rattle.std.proofs.Common.{◌≡◌, ◌≤◌}
+use Rattle.std.proofs.Common.{◌≡◌, ◌+◌, ◌≤◌}
 use Rattle.av1_model.specs.Bits.{bits_of}
 use Rattle.av1_model.specs.Position.{advance_all}
 use Rattle.av1_ec.specs.Checkpoint.{KeepsCheckpoints}
@@ -11,6 +11,7 @@ invariant-loop-left g l =
     record {
       most : l.left ≤ 64;
       room : l.left ≤ b.spare l.w;
+      spare : b.spare l.fn.w + l.left ≤ b.spare l.w + l.word.len;
       rest : advance_all (b.position l.w) (flat_tokens (bits_of l.left l.word.number)) ≡ advance_all (b.position l.fn.w) (flat_tokens (bits_of l.word.len l.word.number));
       kept : KeepsCheckpoints b.stored b.IsReached b.position_at l.fn.w l.w;
     }

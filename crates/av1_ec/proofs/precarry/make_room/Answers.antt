@@ -6,10 +6,10 @@ returns-then-weight-d-lt32-clause-ok c =
     room_by_one _ _ _ _ _ _ _ _ c.requires.least c.requires.most c.if-weight-d-lt24.false c.if-weight-d-lt32.true c.requires.low c.requires.carries
     c.reserve.ensures.items c.leave.ensures.entries c.leave.ensures.low c.leave.ensures.weight
 
-pub leave-requires-2-clause-low : goal.leave-requires-2-clause-low
-leave-requires-2-clause-low c = rest_below _ _ _ _ c.leave-low.ensures.low c.leave-low.ensures.weight
+pub leave-requires-3-clause-low : goal.leave-requires-3-clause-low
+leave-requires-3-clause-low c = rest_below _ _ _ _ c.leave-2.ensures.low c.leave-2.ensures.weight
 
 pub returns-clause-ok : goal.returns-clause-ok
 returns-clause-ok c =
     room_by_two _ _ _ _ _ _ _ _ _ _ _ c.requires.least c.requires.most c.if-weight-d-lt32.false c.requires.bits c.requires.low c.requires.carries
-    c.reserve.ensures.items c.leave-low.ensures.entries c.leave-low.ensures.low c.leave-low.ensures.weight c.leave-2.ensures.entries c.leave-2.ensures.low c.leave-2.ensures.weight
+    c.reserve.ensures.items c.leave-2.ensures.entries c.leave-2.ensures.low c.leave-2.ensures.weight c.leave-3.ensures.entries c.leave-3.ensures.low c.leave-3.ensures.weight

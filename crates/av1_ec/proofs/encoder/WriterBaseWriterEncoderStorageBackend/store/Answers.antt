@@ -6,8 +6,8 @@ pub make_room-requires-clause-low : goal.make_room-requires-clause-low
 make_room-requires-clause-low c =
     part_below _ _ _ _ _ _ record { fl = c.args.fl; fh = c.args.fh; nms = c.args.nms } (encoding_of _ _ _ _ c.args.self.now.window) c.weight-weight.ensures.is c.requires.token c.lr_compute-above.ensures.above
 
-pub overflow_add-self : goal.overflow_add-self
-overflow_add-self c =
+pub overflow_add-low : goal.overflow_add-low
+overflow_add-low c =
     record {
       fits = part_fits c.args.self.now.s.low c.lr_compute-above.result.0 c.weight-weight.result c.weight-weight.ensures.most
           (part_below _ _ _ _ _ _ record { fl = c.args.fl; fh = c.args.fh; nms = c.args.nms } (encoding_of _ _ _ _ c.args.self.now.window) c.weight-weight.ensures.is c.requires.token c.lr_compute-above.ensures.above);
@@ -29,19 +29,19 @@ pub invariant_of-self-2-clause-wide : goal.invariant_of-self-2-clause-wide
 invariant_of-self-2-clause-wide c =
     let s = stored _ _ _ _ _ _ _ _ _ _ c.args.self.now.fake_bits_frac _ (to_z w16 (of_z w16 c.count_of-self.result)) record { fl = c.args.fl; fh = c.args.fh; nms = c.args.nms }
     (encoding_of _ _ _ _ c.args.self.now.window) c.requires.token c.lr_compute-above.ensures.above c.lr_compute-above.ensures.width refl c.weight-weight.ensures.is
-    (count_kept _ _ c.count_of-self.type_inv c.count_of-self.ensures.is) c.in_ok-low.ensures.ok c.requires.shift in
+    (count_kept _ _ c.count_of-self.type_inv c.count_of-self.ensures.is) c.in_ok-make_room.ensures.ok c.requires.shift in
     s.wide
 
 pub invariant_of-self-2-clause-window : goal.invariant_of-self-2-clause-window
 invariant_of-self-2-clause-window c =
     let s = stored _ _ _ _ _ _ _ _ _ _ c.args.self.now.fake_bits_frac _ (to_z w16 (of_z w16 c.count_of-self.result)) record { fl = c.args.fl; fh = c.args.fh; nms = c.args.nms }
     (encoding_of _ _ _ _ c.args.self.now.window) c.requires.token c.lr_compute-above.ensures.above c.lr_compute-above.ensures.width refl c.weight-weight.ensures.is
-    (count_kept _ _ c.count_of-self.type_inv c.count_of-self.ensures.is) c.in_ok-low.ensures.ok c.requires.shift in
+    (count_kept _ _ c.count_of-self.type_inv c.count_of-self.ensures.is) c.in_ok-make_room.ensures.ok c.requires.shift in
     ∣ s.encoding ∣₁
 
 pub returns-clause-ok : goal.returns-clause-ok
 returns-clause-ok c =
     let s = stored _ _ _ _ _ _ _ _ _ _ c.args.self.now.fake_bits_frac _ (to_z w16 (of_z w16 c.count_of-self.result)) record { fl = c.args.fl; fh = c.args.fh; nms = c.args.nms }
     (encoding_of _ _ _ _ c.args.self.now.window) c.requires.token c.lr_compute-above.ensures.above c.lr_compute-above.ensures.width refl c.weight-weight.ensures.is
-    (count_kept _ _ c.count_of-self.type_inv c.count_of-self.ensures.is) c.in_ok-low.ensures.ok c.requires.shift in
+    (count_kept _ _ c.count_of-self.type_inv c.count_of-self.ensures.is) c.in_ok-make_room.ensures.ok c.requires.shift in
     s.position

@@ -1,0 +1,2 @@
+pub mod Skews
+pub mod Steps

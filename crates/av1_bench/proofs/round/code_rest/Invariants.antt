@@ -1,0 +1,5 @@
+use Rattle.std.proofs.Common.{◌+◌, ◌*◌, ◌≤◌}
+use Rattle.av1_bench.proofs.round.code_rest.Given as goal
+
+abbrev pub invariant-loop-j : goal.invariant-loop-j
+invariant-loop-j g l = (g.W.Writer.position l.w).shift ≤ (g.W.Writer.position l.fn.w).shift + 13 * l.j

@@ -1,0 +1,41 @@
+// One rate for all writers.
+ghost use Rattle.std.specs.Prelude.{◌≡◌, ℕ, ◌+◌, ◌^◌, ◌≤◌, List};
+ghost use Rattle.av1_model.specs.Interval.{Token, whole};
+ghost use Rattle.av1_model.specs.Position.{Position, advance, advance_all, encoder_at};
+ghost use Rattle.av1_ec.specs.Rate.{tell_at, tell_frac_at, told, new_counter, new_recorder, new_encoder, narrow_all};
+ghost use Rattle.av1_ec.specs.Recorder.{tokens_at};
+ghost use Rattle.av1_ec.specs.Writing.{with_fake};
+
+use crate::counter::WriterCounter;
+use crate::recorder::WriterRecorder;
+use crate::storage::StorageBackend;
+use crate::writer_base::WriterBase;
+
+/// A new counter, a new recorder and a new encoder tell the same by `tell` and by `tell_frac` after the same tokens and fake
+/// bits, of which it doesn't matter when they are added.
+pub fn law_of_one_rate()
+    ensures counter { (ts : List Token) (fake : ℕ) → tell_at (told new_counter ts fake) ≡ tell_at (told new_encoder ts fake) }
+    ensures recorder { (ts : List Token) (fake : ℕ) → tell_at (told new_recorder ts fake) ≡ tell_at (told new_encoder ts fake) }
+    ensures counter_frac { (ts : List Token) (fake : ℕ) → tell_frac_at (told new_counter ts fake) ≡ tell_frac_at (told new_encoder ts fake) }
+    ensures recorder_frac { (ts : List Token) (fake : ℕ) → tell_frac_at (told new_recorder ts fake) ≡ tell_frac_at (told new_encoder ts fake) }
+    ensures any_time { (p : Position) (t : Token) (fake : ℕ) → advance (with_fake p fake) t ≡ with_fake (advance p t) fake }
+{}
+
+/// A recorder that began anew has exactly the tokens that were stored, and an encoder that begins anew has by them the
+/// interval that they leave.
+pub fn law_of_replaying()
+    ensures tokens { (ts : List Token) → tokens_at (advance_all new_recorder ts) ≡ ts }
+    ensures interval { (ts : List Token) → advance_all new_encoder (tokens_at (advance_all new_recorder ts)) ≡ encoder_at (narrow_all whole ts) }
+{}
+
+/// A counter never wants more memory: by its spare, every store into it succeeds.
+pub fn law_of_counters(w: &WriterBase<WriterCounter>)
+    ensures { 2 ^ 64 ≤ ⟦<WriterBase<WriterCounter> as StorageBackend>⟧.spare w.now }
+{}
+
+/// A recorder's range and shift are those of any new writer after its tokens. So it can be replayed into a new writer.
+pub fn law_of_recorders(w: &WriterBase<WriterRecorder>)
+    ensures range { let p = ⟦<WriterBase<WriterRecorder> as StorageBackend>⟧.position w.now in (q : Position) → q.range ≡ 32768 → q.shift ≡ 0 → (advance_all q (tokens_at p)).range ≡ p.range }
+    ensures shift { let p = ⟦<WriterBase<WriterRecorder> as StorageBackend>⟧.position w.now in (q : Position) → q.range ≡ 32768 → q.shift ≡ 0 → (advance_all q (tokens_at p)).shift ≡ p.shift }
+    ensures fits { let p = ⟦<WriterBase<WriterRecorder> as StorageBackend>⟧.position w.now in (q : Position) → q.range ≡ 32768 → q.shift ≡ 0 → (advance_all q (tokens_at p)).shift ≤ 2 ^ 28 + 2 ^ 24 }
+{}
