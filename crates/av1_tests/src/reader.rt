@@ -1,7 +1,7 @@
 // A plain reader of a tile of `Block` and `Skip` steps. It keeps the whole low end of the interval as one number, so it
 // serves tiles of at most 100 bits. It shares no code with the encoder.
 use av1_geometry::BlockSize;
-use av1_unit::{Item, TileStep};
+use av1_unit::TileStep;
 
 /// The side of a frame in 4x4 blocks, at most.
 const SIDE: usize = 16;
@@ -30,9 +30,8 @@ impl<'a> PlainReader<'a> {
         }
     }
 
-    /// The answer of an item's question: of `Skip` the flag that the bytes tell.
-    pub fn answer(&mut self, item: &Item) -> Option<bool> {
-        let Item::Step(step) = item;
+    /// The answer of a step's question: of `Skip` the flag that the bytes tell.
+    pub fn answer(&mut self, step: &TileStep) -> Option<bool> {
         match step {
             TileStep::Block { x, y, size } => {
                 self.current = (*x, *y, *size);

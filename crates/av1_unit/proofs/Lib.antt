@@ -1,7 +1,13 @@
+mod Coded
+mod Coming
+mod Contexts
+mod Fresh
 mod Grid
-mod Items
 mod Lengths
+mod Marks
 mod ReadingBack
 mod Rows
-mod StepLaws
+mod Standing
+pub mod StepLaws
+mod Surviving
 mod Written

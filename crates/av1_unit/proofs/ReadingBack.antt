@@ -1,7 +1,8 @@
 -- Reading back a list of steps: one induction, which rests on what each kind brings.
 use Rattle.std.proofs.Common.{◌≡◌, ℕ, ◌+◌, ◌≤◌, List, [], ◌∷◌, Option, Some, None, length, map, option_map, option_and_then, refl, sym, ◌∙◌, ap, subst, arith}
 use Rattle.std.specs.Option.{option_map_or}
-use Rattle.av1_model.specs.Interval.{IsInterval, Holds}
+use Rattle.av1_cdf.specs.Tables.{first_broken}
+use Rattle.av1_model.specs.Interval.{Holds}
 use Rattle.av1_model.specs.Reading.{Coding}
 use Rattle.av1_model.specs.Position.{advance_all, encoder_at}
 use Rattle.av1_model.proofs.Encoded.{encoder_along, context-along, along_shift}
@@ -9,9 +10,10 @@ use Rattle.av1_model.proofs.ReadBack.{along_valid, held_before, read_back}
 use Rattle.av1_unit.specs.declared.unit.TileStep.{TileStep}
 use Rattle.av1_unit.specs.declared.unit.TileStep.TheVariants.{Block, Skip}
 use Rattle.av1_unit.specs.Tile.{Tile, contents, adapted}
-use Rattle.av1_unit.specs.Step.{question_of, answer_of, first_broken, rules, syntax_of, symbols_of, entered}
+use Rattle.av1_unit.specs.Step.{question_of, answer_of, rules, syntax_of, symbols_of, entered}
 use Rattle.av1_unit.specs.Script.{with_answer, after, after_all, tokens_of, tile_after, read_steps, first_broken_step}
-use Rattle.av1_unit.proofs.StepLaws.{AreCdfs, IsAllowed, leads, fits, cdfs_after}
+use Rattle.av1_unit.specs.Sound.{AreCdfs, IsSound}
+use Rattle.av1_unit.proofs.StepLaws.{IsAllowed, leads, fits, cdfs_after}
 
 -- the tile after a step doesn't depend on what was coded before it
 pub context-after : (at : Coding Tile) (step : TileStep) → (after at step).context ≡ tile_after at.context step
@@ -21,15 +23,10 @@ context-after at step = ap (entered (question_of step) (answer_of step)) (contex
 pub encoder_after : (at : Coding Tile) (step : TileStep) → advance_all (encoder_at at.interval) (tokens_of step at.context) ≡ encoder_at (after at step).interval
 encoder_after at step = encoder_along contents adapted (syntax_of (question_of step) at.context) (symbols_of step) at
 
--- what holds of every place between two steps
-pub record IsSound (at : Coding Tile) : Type 0 where
-  pub interval : IsInterval at.interval
-  pub cdfs : AreCdfs at.context.skip_cdfs
-
 pub sound_after : (at : Coding Tile) (step : TileStep) → IsSound at → IsAllowed step at.context → IsSound (after at step)
 sound_after at step v h = record {
   interval = along_valid contents adapted (syntax_of (question_of step) at.context) (symbols_of step) at v.interval (fits step at v.cdfs h);
-  cdfs = subst (λ (t : Tile). AreCdfs t.skip_cdfs) (sym (context-after at step)) (cdfs_after at.context step v.cdfs h);
+  cdfs = subst (λ (t : Tile). AreCdfs t.numbers) (sym (context-after at step)) (cdfs_after at.context step v.cdfs h);
 }
 
 one_symbol : (step : TileStep) → length (symbols_of step) ≤ 1

@@ -110,9 +110,13 @@ size_fields =
     ∷ field (codes "render_and_frame_size_different") 1 0
     ∷ []
 
+-- the quantizer of a frame
+abbrev pub base_q_idx : ℕ
+base_q_idx = 100
+
 abbrev pub quantizer_fields : List Field
 quantizer_fields =
-    field (codes "base_q_idx") 8 100
+    field (codes "base_q_idx") 8 base_q_idx
     ∷ field (codes "delta_coded") 1 0
     ∷ field (codes "using_qmatrix") 1 0
     ∷ field (codes "segmentation_enabled") 1 0

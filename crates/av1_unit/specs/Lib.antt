@@ -1,8 +1,11 @@
+pub mod Coder
 pub mod Framing
 pub mod Header
 pub mod Headline
 pub mod Report
 pub mod Script
+pub mod Sound
 pub mod State
 pub mod Step
 pub mod Tile
+pub mod Trials

@@ -1,14 +1,13 @@
 -- A list of steps: what is coded after it, what is wrong with it, and what a reader takes.
-use Rattle.std.specs.Prelude.{ℕ, ◌+◌, List, [], ◌∷◌, map, Option, Some, None, option_map, option_and_then}
+use Rattle.std.specs.Prelude.{ℕ, ◌+◌, List, [], ◌∷◌, Option, Some, None, option_map, option_and_then}
 use Rattle.std.specs.Option.{option_map_or}
+use Rattle.av1_cdf.specs.Tables.{first_broken}
 use Rattle.av1_model.specs.Interval.{Token}
 use Rattle.av1_model.specs.Paths.{tokens_along, context_along}
 use Rattle.av1_model.specs.Reading.{Coding, along, read}
-use Rattle.av1_unit.specs.declared.unit.Item.{Item}
-use Rattle.av1_unit.specs.declared.unit.Item.TheVariants.{Step}
 use Rattle.av1_unit.specs.declared.unit.TileStep.{TileStep}
 use Rattle.av1_unit.specs.Tile.{Tile, contents, adapted}
-use Rattle.av1_unit.specs.Step.{Question, Answer, question_of, answer_of, first_broken, rules, syntax_of, entered, symbols_of}
+use Rattle.av1_unit.specs.Step.{Question, Answer, question_of, answer_of, rules, syntax_of, entered, symbols_of}
 
 -- the interval and the tile after an answer
 abbrev pub with_answer : Question → Answer → Coding Tile → Coding Tile
@@ -35,13 +34,6 @@ abbrev pub read_steps : List Question → List ℕ → Coding Tile → Option (L
 read_steps [] bytes at = Some ([], at)
 read_steps (q ∷ qs) bytes at =
     option_and_then (λ r. option_map (λ rest. (r.0 ∷ rest.0, rest.1)) (read_steps qs bytes (with_answer q r.0 r.1))) (read contents adapted (syntax_of q at.context) bytes at)
-
--- the steps of a script
-abbrev pub step_of : Item → TileStep
-step_of (Step step) = step
-
-abbrev pub steps_of : List Item → List TileStep
-steps_of items = map step_of items
 
 -- the first step, numbered from n on, that breaks a rule where it begins, and the rule
 abbrev pub first_broken_step : ℕ → Coding Tile → List TileStep → Option (ℕ × ℕ)

@@ -11,7 +11,7 @@ abbrev pub tile_of : TileState → Tile
 tile_of s = record {
   cols = s.cols;
   rows = s.rows;
-  skip_cdfs = s.skip_cdfs;
+  numbers = s.fc;
   skip = flag_at s.cols s.rows s.skips.items;
   current = s.current;
 }

@@ -1,14 +1,18 @@
 -- The kinds of step: each is a question, a syntax tree that a reader goes down, and what its answer changes.
-use Rattle.std.specs.Prelude.{ℕ, zero, suc, ◌%◌, ◌&&◌, ◌==◌, List, [], ◌∷◌, Bool, true, false, Option, Some, None, is_some, is_none, nat_le, nat_lt, if◌then◌else◌}
+use Rattle.std.specs.Prelude.{Option, ℕ, zero, suc, ◌^◌, option_map, ◌%◌, ◌&&◌, ◌==◌, List, [], ◌∷◌, Bool, true, false, Some, is_some, is_none, nat_le, nat_lt, if◌then◌else◌}
 use Rattle.std.specs.Option.{option_map_or}
+use Rattle.av1_cdf.specs.Layout.{Slot}
+use Rattle.av1_cdf.specs.Tables.{Check, first_broken}
 use Rattle.av1_geometry.specs.declared.block_size.BlockSize.{BlockSize}
 use Rattle.av1_geometry.specs.BlockSize.{width_log2, height_log2, width_mi, height_mi}
 use Rattle.av1_model.specs.Syntax.{Syntax}
 use Rattle.av1_model.specs.Syntax.Syntax.{Bad, Done, Ask}
+use Rattle.av1_unit.specs.declared.error.StepFault.{StepFault}
+use Rattle.av1_unit.specs.declared.error.StepFault.TheVariants.{TooLong, Broken}
 use Rattle.av1_unit.specs.declared.tile.CurrentBlock.{CurrentBlock}
 use Rattle.av1_unit.specs.declared.unit.TileStep.{TileStep}
 use Rattle.av1_unit.specs.declared.unit.TileStep.TheVariants.{Block, Skip}
-use Rattle.av1_unit.specs.Tile.{Tile, with_skip, skip_context}
+use Rattle.av1_unit.specs.Tile.{Tile, with_skip, skip_context, skip_slot}
 
 -- what the reader is given of a step
 pub data Question : Type 0 where
@@ -28,15 +32,6 @@ abbrev pub answer_of : TileStep → Answer
 answer_of (Block x y size) = Nothing
 answer_of (Skip on) = Flag on
 
--- a rule by its number, and whether it holds
-abbrev pub Check : Type 0
-Check = ℕ × Bool
-
--- the number of the first rule that is broken
-abbrev pub first_broken : List Check → Option ℕ
-first_broken [] = None
-first_broken (c ∷ cs) = if c.1 then first_broken cs else Some c.0
-
 -- the rules of a question, by rising numbers
 abbrev pub rules : Question → Tile → List Check
 rules (IsBlock x y size) t =
@@ -45,19 +40,28 @@ rules (IsBlock x y size) t =
     ∷ []
 rules IsSkip t = (64, is_some t.current) ∷ []
 
+-- after more bits no step begins
+abbrev pub most_bits : ℕ
+most_bits = 2 ^ 28
+
+-- what is wrong with a step that begins after so many bits
+abbrev pub step_fault : Tile → ℕ → TileStep → Option StepFault
+step_fault t bits step =
+    if nat_lt most_bits bits then Some TooLong else option_map (λ rule. Broken record { 0 = rule }) (first_broken (rules (question_of step) t))
+
 -- a flag is read as symbol 0 or 1
-abbrev pub flag : ℕ → Syntax ℕ Answer
+abbrev pub flag : ℕ → Syntax Slot Answer
 flag zero = Done (Flag false)
 flag (suc zero) = Done (Flag true)
 flag (suc (suc s)) = Bad
 
 -- what a reader does, where no rule is broken
-abbrev pub element : Question → Tile → Syntax ℕ Answer
+abbrev pub element : Question → Tile → Syntax Slot Answer
 element (IsBlock x y size) t = Done Nothing
-element IsSkip t = option_map_or (λ b. Ask (skip_context t b) flag) t.current Bad
+element IsSkip t = option_map_or (λ b. Ask (skip_slot (skip_context t b)) flag) t.current Bad
 
 -- what a reader does
-abbrev pub syntax_of : Question → Tile → Syntax ℕ Answer
+abbrev pub syntax_of : Question → Tile → Syntax Slot Answer
 syntax_of q t = if is_none (first_broken (rules q t)) then element q t else Bad
 
 -- a block becomes the current one, not skipped

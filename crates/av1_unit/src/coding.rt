@@ -1,86 +1,307 @@
 // From the items of a script to the bytes of a tile.
-ghost use Rattle.std.specs.Prelude.{◌≡◌, ◌⊎◌, ℕ, ◌+◌, ◌*◌, ◌^◌, ◌≤◌, length, None, Some, IfOk, IfErr, OnOk};
-ghost use Rattle.av1_model.specs.Interval.{whole, bits, final_bytes};
-ghost use Rattle.av1_model.specs.Position.{encoder_at, advance_all};
+ghost use Rattle.std.specs.Prelude.{◌≡◌, ◌⊎◌, ℕ, ◌+◌, ◌*◌, ◌^◌, ◌<◌, ◌≤◌, ◌∷◌, List, false, length, option_map, None, Some, IfOk, IfErr, OnOk, if◌then◌else◌};
+ghost use Rattle.av1_unit.specs.declared.error.UnitError.{UnitError};
 ghost use Rattle.av1_unit.specs.declared.error.UnitError.TheVariants.{OutOfMemory as MemoryError};
-ghost use Rattle.av1_unit.specs.declared.error.Place.TheVariants.{Item as ItemPlace};
-ghost use Rattle.av1_unit.specs.Tile.{fresh};
-ghost use Rattle.av1_unit.specs.State.{tile_of};
-ghost use Rattle.av1_unit.specs.Script.{step_of, steps_of, after_all, tile_after, tokens_of, first_broken_step};
-ghost use Rattle.av1_unit.specs.Step.{question_of, rules, first_broken};
-ghost use Rattle.av1_unit.specs.Headline.{refused, fresh_coding};
+ghost use Rattle.av1_unit.specs.declared.unit.Item.{Item};
+ghost use Rattle.av1_ec.specs.Recorder.{tokens_at};
+ghost use Rattle.av1_model.specs.Eighths.{eighths};
+ghost use Rattle.av1_model.specs.Interval.{whole, bits, final_bytes};
+ghost use Rattle.av1_model.specs.Position.{Position, advance_all, encoder_at};
+ghost use Rattle.av1_unit.specs.Coder.{IsNew, HasCoded};
+ghost use Rattle.av1_unit.specs.Trials.{error_of, first_wrong};
+ghost use Rattle.av1_cdf.specs.Tables.{first_broken, table_rules};
+ghost use Rattle.av1_unit.specs.Headline.{started, begin, ending, frame_rules, trial_costs};
 
+use crate::check::check_step;
 use crate::tile::TileState;
-use crate::{Item, Place, UnitError};
-use av1_ec::{Writer, WriterEncoder};
+use crate::{Item, Place, StepFault, TileStep, TrialCost, Unit, UnitError, Via};
+use av1_ec::{
+    Writer, WriterBase, WriterCheckpoint, WriterEncoder, WriterRecorder, law_of_recorders,
+};
+use av1_geometry::{BlockOffset, OutOfMemory, Rule};
 use std::alloc::Global;
 
-/// Codes the items of a tile of so many columns and rows of 4x4 blocks. Gives its bytes, and its bits.
-pub(crate) fn code_tile(
-    alloc: Global,
-    cols: usize,
-    rows: usize,
-    items: &[Item],
-) -> Result<(Vec<u8>, u32), UnitError>
-    requires grid { cols * rows ≤ 2 ^ 22 }
-    requires items { length items.now ≤ 65536 }
-    ensures allowed { OnOk result (first_broken_step 0 (fresh_coding cols rows) (steps_of items.now) ≡ None) }
-    ensures bytes { IfOk result (λ r. r.0.items ≡ final_bytes (after_all (fresh_coding cols rows) (steps_of items.now)).interval) }
-    ensures bits { IfOk result (λ r. r.1 ≡ bits (after_all (fresh_coding cols rows) (steps_of items.now)).interval) }
-    ensures short { IfOk result (λ r. length r.0.items ≤ 2 ^ 20) }
-    ensures err { IfErr result (λ e. (e ≡ MemoryError)
-        ⊎ ((at : ℕ × ℕ) × (first_broken_step 0 (fresh_coding cols rows) (steps_of items.now) ≡ Some at) × (e ≡ refused (ItemPlace 0 at.0) at.1))) }
-{
-    let mut state = TileState::new(alloc, cols, rows)?;
-    let mut w = WriterEncoder::new(alloc);
-    code_items(&mut state, &mut w, items)?;
-    let bits = w.tell();
-    Ok((w.done()?, bits))
+/// What a trial that has begun keeps.
+#[derive(Drop)]
+pub(crate) struct TrialMark {
+    pub place: BlockOffset,
+    /// The place of its `Begin` in the script.
+    pub item: usize,
+    /// The place of its cost among all costs.
+    pub trial: usize,
+    /// How many eighths of a bit were coded at its beginning.
+    pub eighths: u32,
+    pub writer: WriterCheckpoint,
+    pub tile: TileState,
 }
 
-fn code_items<W: Writer>(state: &mut TileState, w: &mut W, items: &[Item]) -> Result<(), UnitError>
-    requires items { length items.now ≤ 65536 }
-    requires tile { tile_of state.old ≡ fresh (tile_of state.old).cols (tile_of state.old).rows }
-    requires writer { W.position w.old ≡ encoder_at whole }
-    ensures allowed { OnOk result (let at = fresh_coding (tile_of state.old).cols (tile_of state.old).rows in
-        first_broken_step 0 at (steps_of items.now) ≡ None) }
-    ensures coded { OnOk result (let at = fresh_coding (tile_of state.old).cols (tile_of state.old).rows in
-        W.position w.new ≡ encoder_at (after_all at (steps_of items.now)).interval) }
-    ensures shift { OnOk result ((W.position w.new).shift ≤ 13 * 65536) }
-    ensures err { IfErr result (λ e. let at = fresh_coding (tile_of state.old).cols (tile_of state.old).rows in (e ≡ MemoryError)
-        ⊎ ((broken : ℕ × ℕ) × (first_broken_step 0 at (steps_of items.now) ≡ Some broken) × (e ≡ refused (ItemPlace 0 broken.0) broken.1))) }
-{
-    for (i, item) in items.iter().enumerate() {
-        code_item(state, w, i, item)?;
-    }
-    Ok(())
+/// A tile on its way: what is coded, the trials that have begun, and what trials cost.
+#[derive(Drop)]
+pub(crate) struct TileCoder<W> {
+    tile: TileState,
+    writer: W,
+    // The trials that have begun and not ended, the innermost last.
+    marks: Vec<TrialMark>,
+    // All trials' costs, in the order of their beginnings.
+    costs: Vec<TrialCost>,
 }
 
-// Codes the item at a place of the script, where it breaks no rule.
-fn code_item<W: Writer>(
-    state: &mut TileState,
-    w: &mut W,
-    place: usize,
-    item: &Item,
-) -> Result<(), UnitError>
-    requires shift { (W.position w.old).shift + 13 ≤ 2 ^ 28 + 2 ^ 24 }
-    ensures allowed { OnOk result (first_broken (rules (question_of (step_of item.now)) (tile_of state.old)) ≡ None) }
-    ensures tile { OnOk result (tile_of state.new ≡ tile_after (tile_of state.old) (step_of item.now)) }
-    ensures writer { OnOk result (W.position w.new ≡ advance_all (W.position w.old) (tokens_of (step_of item.now) (tile_of state.old))) }
-    ensures err { IfErr result (λ e. (e ≡ MemoryError)
-        ⊎ ((rule : ℕ) × (first_broken (rules (question_of (step_of item.now)) (tile_of state.old)) ≡ Some rule) × (e ≡ refused (ItemPlace 0 place) rule))) }
-{
-    match item {
-        Item::Step(step) => {
-            if let Some(rule) = state.check_step(step) {
-                let place = Place::Item {
-                    tile: 0,
-                    item: place,
-                };
-                return Err(UnitError::Refused { place, rule });
-            }
-            state.write_step(w, step)?;
-            Ok(())
+impl<W: Writer> TileCoder<W> {
+    ghost use Rattle.av1_unit.specs.Coder.{StandsAt};
+    ghost use Rattle.av1_unit.specs.Trials.{Progress, moved, moved_all, ended, misplaced, item_fault, strays, no_trial, first_wrong, place_of};
+    ghost use Rattle.av1_cdf.specs.Tables.{first_broken};
+    ghost use Rattle.av1_unit.specs.declared.unit.Item.TheVariants.{Step, Begin, Keep, Abandon};
+
+    // Whether a place lies in another superblock than the innermost trial.
+    fn strays(&self, place: BlockOffset) -> bool
+        ensures { (start : Position) (n : ℕ) (p : Progress) → StandsAt start W.IsReached W.position_at n self.now.tile self.now.writer (W.position self.now.writer) (W.stored self.now.writer) self.now.marks.items self.now.costs.items p
+            → result ≡ strays p.trials (Some place) }
+    {
+        match self.marks.last() {
+            Some(mark) => place.sb_offset() != mark.place.sb_offset(),
+            None => false,
         }
     }
+
+    // The place of a step: its own, or the current block's.
+    fn place_of(&self, step: &TileStep) -> Option<BlockOffset>
+        ensures { (start : Position) (n : ℕ) (p : Progress) → StandsAt start W.IsReached W.position_at n self.now.tile self.now.writer (W.position self.now.writer) (W.stored self.now.writer) self.now.marks.items self.now.costs.items p
+            → result ≡ place_of (Step step.now) p.at.context }
+    {
+        match step {
+            TileStep::Block { x, y, .. } => Some(BlockOffset { x: *x, y: *y }),
+            TileStep::Skip { .. } => match self.tile.current() {
+                Some(block) => Some(BlockOffset {
+                    x: block.x,
+                    y: block.y,
+                }),
+                None => None,
+            },
+        }
+    }
+
+    // Whether an item can't come here: it ends no trial, or strays from the innermost one.
+    fn is_misplaced(&self, item: &Item) -> bool
+        ensures { (start : Position) (n : ℕ) (p : Progress) → StandsAt start W.IsReached W.position_at n self.now.tile self.now.writer (W.position self.now.writer) (W.stored self.now.writer) self.now.marks.items self.now.costs.items p
+            → result ≡ misplaced item.now p.at.context p.trials }
+    {
+        match item {
+            Item::Step(step) => match self.place_of(step) {
+                Some(place) => self.strays(place),
+                None => false,
+            },
+            Item::Begin(place) => self.strays(place.0),
+            Item::Keep | Item::Abandon => self.marks.is_empty(),
+        }
+    }
+
+    // What is wrong with an item that may come here.
+    fn check_item(&self, item: &Item) -> Option<StepFault>
+        ensures { (start : Position) (n : ℕ) (p : Progress) → StandsAt start W.IsReached W.position_at n self.now.tile self.now.writer (W.position self.now.writer) (W.stored self.now.writer) self.now.marks.items self.now.costs.items p
+            → result ≡ item_fault item.now p.at }
+    {
+        match item {
+            Item::Step(step) => check_step(&self.tile, self.writer.tell(), step),
+            Item::Begin(place) if !self.tile.contains(place.0) => Some(StepFault::Broken(Rule(60))),
+            Item::Begin(_) | Item::Keep | Item::Abandon => None,
+        }
+    }
+
+    // A trial begins at a place, by item `n`.
+    fn begin(&mut self, alloc: Global, n: usize, place: BlockOffset) -> Result<(), OutOfMemory>
+        ensures { OnOk result ((start : Position) (p : Progress) → StandsAt start W.IsReached W.position_at n self.old.tile self.old.writer (W.position self.old.writer) (W.stored self.old.writer) self.old.marks.items self.old.costs.items p
+            → StandsAt start W.IsReached W.position_at (n + 1) self.new.tile self.new.writer (W.position self.new.writer) (W.stored self.new.writer) self.new.marks.items self.new.costs.items (moved n p (Begin record { 0 = place }))) }
+    {
+        let mark = TrialMark {
+            place,
+            item: n,
+            trial: self.costs.len(),
+            eighths: self.writer.tell_frac(),
+            writer: self.writer.checkpoint(),
+            tile: self.tile.copy(alloc)?,
+        };
+        self.costs.push(TrialCost {
+            tile: 0,
+            item: n,
+            eighths: 0,
+            kept: false,
+        })?;
+        self.marks.push(mark)?;
+        Ok(())
+    }
+
+    // The innermost trial ends.
+    fn end(&mut self, kept: bool)
+        requires { (start : Position) × (n : ℕ) × (p : Progress) × StandsAt start W.IsReached W.position_at n self.old.tile self.old.writer (W.position self.old.writer) (W.stored self.old.writer) self.old.marks.items self.old.costs.items p }
+        ensures { (start : Position) (n : ℕ) (p : Progress) → StandsAt start W.IsReached W.position_at n self.old.tile self.old.writer (W.position self.old.writer) (W.stored self.old.writer) self.old.marks.items self.old.costs.items p
+            → StandsAt start W.IsReached W.position_at (n + 1) self.new.tile self.new.writer (W.position self.new.writer) (W.stored self.new.writer) self.new.marks.items self.new.costs.items (ended kept p.at p.trials p.costs) }
+    {
+        let Some(mark) = self.marks.pop() else { return };
+        self.costs[mark.trial] = TrialCost {
+            tile: 0,
+            item: mark.item,
+            eighths: self.writer.tell_frac() - mark.eighths,
+            kept,
+        };
+        if !kept {
+            self.writer.rollback(&mark.writer);
+            self.tile = mark.tile;
+        }
+    }
+
+    // Takes item `n`, where it is in its place and breaks no rule.
+    fn code_item(&mut self, alloc: Global, n: usize, item: &Item) -> Result<(), UnitError>
+        requires standing { (start : Position) × (p : Progress) × StandsAt start W.IsReached W.position_at n self.old.tile self.old.writer (W.position self.old.writer) (W.stored self.old.writer) self.old.marks.items self.old.costs.items p }
+        ensures ok { OnOk result ((start : Position) (p : Progress) → StandsAt start W.IsReached W.position_at n self.old.tile self.old.writer (W.position self.old.writer) (W.stored self.old.writer) self.old.marks.items self.old.costs.items p
+            → StandsAt start W.IsReached W.position_at (n + 1) self.new.tile self.new.writer (W.position self.new.writer) (W.stored self.new.writer) self.new.marks.items self.new.costs.items (moved n p item.now)) }
+        ensures right { OnOk result ((start : Position) (p : Progress) → StandsAt start W.IsReached W.position_at n self.old.tile self.old.writer (W.position self.old.writer) (W.stored self.old.writer) self.old.marks.items self.old.costs.items p
+            → (rest : List Item) → first_wrong n p (item.now ∷ rest) ≡ first_wrong (n + 1) (moved n p item.now) rest) }
+        ensures err { IfErr result (λ e. (e ≡ MemoryError) ⊎ ((start : Position) (p : Progress) → StandsAt start W.IsReached W.position_at n self.old.tile self.old.writer (W.position self.old.writer) (W.stored self.old.writer) self.old.marks.items self.old.costs.items p
+            → (rest : List Item) → first_wrong n p (item.now ∷ rest) ≡ Some e)) }
+    {
+        if self.is_misplaced(item) {
+            return Err(UnitError::BadScript { tile: 0, item: n });
+        }
+        if let Some(fault) = self.check_item(item) {
+            return Err(error_of(n, fault));
+        }
+        match item {
+            Item::Step(step) => self.tile.write_step(&mut self.writer, step)?,
+            Item::Begin(place) => self.begin(alloc, n, place.0)?,
+            Item::Keep => self.end(true),
+            Item::Abandon => self.end(false),
+        }
+        Ok(())
+    }
+
+    // Takes all items of a tile, at whose beginning this stands.
+    fn code_items(&mut self, alloc: Global, items: &[Item]) -> Result<(), UnitError>
+        requires standing { (start : Position) × (p : Progress) × StandsAt start W.IsReached W.position_at 0 self.old.tile self.old.writer (W.position self.old.writer) (W.stored self.old.writer) self.old.marks.items self.old.costs.items p }
+        ensures ok { OnOk result ((start : Position) (p : Progress) → StandsAt start W.IsReached W.position_at 0 self.old.tile self.old.writer (W.position self.old.writer) (W.stored self.old.writer) self.old.marks.items self.old.costs.items p
+            → StandsAt start W.IsReached W.position_at (length items.now) self.new.tile self.new.writer (W.position self.new.writer) (W.stored self.new.writer) self.new.marks.items self.new.costs.items (moved_all 0 p items.now)) }
+        ensures right { OnOk result ((start : Position) (p : Progress) → StandsAt start W.IsReached W.position_at 0 self.old.tile self.old.writer (W.position self.old.writer) (W.stored self.old.writer) self.old.marks.items self.old.costs.items p
+            → first_wrong 0 p items.now ≡ None) }
+        ensures err { IfErr result (λ e. (e ≡ MemoryError) ⊎ ((start : Position) (p : Progress) → StandsAt start W.IsReached W.position_at 0 self.old.tile self.old.writer (W.position self.old.writer) (W.stored self.old.writer) self.old.marks.items self.old.costs.items p
+            → first_wrong 0 p items.now ≡ Some e)) }
+    {
+        for (i, item) in items.iter().enumerate() {
+            self.code_item(alloc, i, item)?;
+        }
+        if self.marks.is_empty() {
+            Ok(())
+        } else {
+            Err(UnitError::BadScript {
+                tile: 0,
+                item: items.len(),
+            })
+        }
+    }
+}
+
+// The error that says what is wrong with item `n`.
+fn error_of(n: usize, fault: StepFault) -> UnitError
+    ensures { result ≡ error_of n fault }
+{
+    let place = Place::Item { tile: 0, item: n };
+    match fault {
+        StepFault::TooLong => UnitError::TooLong { place },
+        StepFault::Broken(rule) => UnitError::Refused { place, rule },
+    }
+}
+
+/// A tile that is coded.
+#[derive(Drop)]
+pub(crate) struct CodedTile {
+    pub bytes: Vec<u8>,
+    pub bits: u32,
+    pub trials: Vec<TrialCost>,
+}
+
+/// Codes the items of a unit by a new writer. It gives the writer back, and what the trials cost.
+pub(crate) fn code_by<W: Writer + Drop>(
+    alloc: Global,
+    unit: &Unit,
+    writer: W,
+) -> Result<(W, Vec<TrialCost>), UnitError>
+    requires tables { first_broken (table_rules unit.now.tables) ≡ None }
+    requires frame { first_broken (frame_rules unit.now) ≡ None }
+    requires new { IsNew (W.position writer) }
+    ensures allowed { OnOk result (first_wrong 0 (started (begin unit.now)) unit.now.script ≡ None) }
+    ensures coded { IfOk result (λ r. HasCoded (W.position writer) (W.position r.0) (ending unit.now)) }
+    ensures few { OnOk result (eighths (ending unit.now) ≤ 8 * (2 ^ 28 + 14)) }
+    ensures trials { IfOk result (λ r. r.1.items ≡ trial_costs unit.now) }
+    ensures err { IfErr result (λ e. (e ≡ MemoryError) ⊎ (first_wrong 0 (started (begin unit.now)) unit.now.script ≡ Some e)) }
+{
+    let mut coder = TileCoder {
+        tile: TileState::new(alloc, unit, 0)?,
+        writer,
+        marks: Vec::new(alloc),
+        costs: Vec::new(alloc),
+    };
+    let script = &unit.script;
+    coder.code_items(alloc, &script.items)?;
+    let TileCoder { writer, costs, .. } = coder;
+    Ok((writer, costs))
+}
+
+// A new encoder that gets a recorder's tokens.
+fn replayed(
+    alloc: Global,
+    mut recorder: WriterBase<WriterRecorder>,
+) -> Result<WriterBase<WriterEncoder>, OutOfMemory>
+    ensures { IfOk result (λ w. ⟦<WriterBase<WriterEncoder> as Writer>⟧.position w ≡ advance_all (encoder_at whole) (tokens_at (⟦<WriterBase<WriterRecorder> as Writer>⟧.position recorder))) }
+{
+    law_of_recorders(&recorder);
+    let mut encoder = WriterEncoder::new(alloc);
+    recorder.replay(&mut encoder)?;
+    Ok(encoder)
+}
+
+// Codes the items as `code_by` does, by an encoder or by a recorder that is replayed into one. The encoder is the same.
+fn encode(
+    alloc: Global,
+    unit: &Unit,
+    via: Via,
+) -> Result<(WriterBase<WriterEncoder>, Vec<TrialCost>), UnitError>
+    requires tables { first_broken (table_rules unit.now.tables) ≡ None }
+    requires frame { first_broken (frame_rules unit.now) ≡ None }
+    ensures allowed { OnOk result (first_wrong 0 (started (begin unit.now)) unit.now.script ≡ None) }
+    ensures coded { IfOk result (λ r. ⟦<WriterBase<WriterEncoder> as Writer>⟧.position r.0 ≡ encoder_at (ending unit.now)) }
+    ensures few { OnOk result (eighths (ending unit.now) ≤ 8 * (2 ^ 28 + 14)) }
+    ensures trials { IfOk result (λ r. r.1.items ≡ trial_costs unit.now) }
+    ensures err { IfErr result (λ e. (e ≡ MemoryError) ⊎ (first_wrong 0 (started (begin unit.now)) unit.now.script ≡ Some e)) }
+{
+    match via {
+        Via::Direct => {
+            let writer = WriterEncoder::new(alloc);
+            let (encoder, trials) = code_by(alloc, unit, writer)?;
+            Ok((encoder, trials))
+        }
+        Via::Recorded => {
+            let writer = WriterRecorder::new(alloc);
+            let (recorder, trials) = code_by(alloc, unit, writer)?;
+            let encoder = replayed(alloc, recorder)?;
+            Ok((encoder, trials))
+        }
+    }
+}
+
+/// Codes the items of a unit whose tables and frame break no rule.
+pub(crate) fn code_tile(alloc: Global, unit: &Unit, via: Via) -> Result<CodedTile, UnitError>
+    requires tables { first_broken (table_rules unit.now.tables) ≡ None }
+    requires frame { first_broken (frame_rules unit.now) ≡ None }
+    ensures allowed { OnOk result (first_wrong 0 (started (begin unit.now)) unit.now.script ≡ None) }
+    ensures bytes { IfOk result (λ r. r.bytes.items ≡ final_bytes (ending unit.now)) }
+    ensures bits { IfOk result (λ r. r.bits ≡ bits (ending unit.now)) }
+    ensures trials { IfOk result (λ r. r.trials.items ≡ trial_costs unit.now) }
+    ensures short { IfOk result (λ r. length r.bytes.items ≤ 2 ^ 26) }
+    ensures err { IfErr result (λ e. (e ≡ MemoryError) ⊎ (first_wrong 0 (started (begin unit.now)) unit.now.script ≡ Some e)) }
+{
+    let (encoder, trials) = encode(alloc, unit, via)?;
+    let bits = encoder.tell();
+    Ok(CodedTile {
+        bytes: encoder.done()?,
+        bits,
+        trials,
+    })
 }

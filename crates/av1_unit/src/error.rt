@@ -6,11 +6,27 @@ use thiserror::Error;
 /// A place in a unit.
 #[derive(Clone, Copy, Debug, PartialEq, Eq)]
 pub enum Place {
+    /// The tables that distributions start from.
+    Tables,
+
     /// The frame.
     Frame,
 
     /// An item of a tile's script, both numbered from 0.
     Item { tile: u32, item: usize },
+
+    /// An OBU of the unit, numbered from 0.
+    Obu { index: usize },
+}
+
+/// Why a step isn't written.
+#[derive(Clone, Copy, Debug, PartialEq, Eq)]
+pub enum StepFault {
+    /// It would begin after more than 2^28 bits.
+    TooLong,
+
+    /// It breaks this rule, and none of a lower number.
+    Broken(Rule),
 }
 
 /// Why a unit isn't written.
@@ -19,6 +35,15 @@ pub enum UnitError {
     /// The place breaks the rule, and nothing before it is wrong. Nothing is sent.
     #[error("refused")]
     Refused { place: Place, rule: Rule },
+
+    /// A trial ends that has not begun, has not ended where the script ends (the place after the last item), or has an
+    /// item in another superblock. Nothing is sent.
+    #[error("bad script")]
+    BadScript { tile: u32, item: usize },
+
+    /// A step would begin here after more than 2^28 bits, and nothing before it is wrong. Nothing is sent.
+    #[error("too long")]
+    TooLong { place: Place },
 
     /// The sink's count of faults rose in this call. A beginning of the bytes was sent.
     #[error("sink fault")]

@@ -22,7 +22,7 @@ const OBU_FRAME: u64 = 6;
 pub(crate) fn frame_unit(alloc: Global, unit: &Unit, tile: &[u8]) -> Result<Vec<u8>, OutOfMemory>
     requires width { (1 ≤ unit.now.width) × (unit.now.width ≤ 65536) }
     requires height { (1 ≤ unit.now.height) × (unit.now.height ≤ 65536) }
-    requires tile { length tile.now ≤ 2 ^ 20 }
+    requires tile { length tile.now ≤ 2 ^ 26 }
     ensures { IfOk result (λ v. v.items ≡ framed unit.now tile.now) }
 {
     let mut bytes = Vec::new(alloc);

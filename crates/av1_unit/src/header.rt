@@ -5,6 +5,9 @@ ghost use Rattle.av1_unit.specs.Header.{field_bits, bit_length, superblocks, pro
 use av1_bits::BitWriter;
 use av1_geometry::OutOfMemory;
 
+/// The quantizer of a frame (`base_q_idx`).
+pub(crate) const BASE_Q_IDX: u8 = 100;
+
 /// Writes the header of an OBU.
 pub(crate) fn write_obu_header(bits: &mut BitWriter, obu_type: u64) -> Result<(), OutOfMemory>
     requires { obu_type < 16 }
@@ -145,7 +148,7 @@ fn write_one_tile(bits: &mut BitWriter, superblocks: usize) -> Result<(), OutOfM
 fn write_quantizer(bits: &mut BitWriter) -> Result<(), OutOfMemory>
     ensures { OnOk result (bits.new ≡ bits.old ++ field_bits quantizer_fields) }
 {
-    bits.write::<8>(100)?; // base index
+    bits.write::<8>(u64::from(BASE_Q_IDX))?;
     bits.write::<1>(0)?; // no delta
     bits.write::<1>(0)?; // no quantizer matrix
     bits.write::<1>(0)?; // no segmentation

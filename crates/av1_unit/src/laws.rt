@@ -4,9 +4,11 @@ ghost use Rattle.av1_model.specs.Interval.{final_bytes};
 ghost use Rattle.av1_model.specs.Syntax.{Leads};
 ghost use Rattle.av1_unit.specs.declared.unit.TileStep.{TileStep};
 ghost use Rattle.av1_unit.specs.Tile.{Tile};
-ghost use Rattle.av1_unit.specs.Step.{question_of, answer_of, first_broken, rules, syntax_of, symbols_of};
+ghost use Rattle.av1_cdf.specs.Tables.{first_broken};
+ghost use Rattle.av1_unit.specs.Step.{question_of, answer_of, rules, syntax_of, symbols_of};
 ghost use Rattle.av1_unit.specs.Script.{after_all, first_broken_step, read_steps};
 ghost use Rattle.av1_unit.specs.Headline.{fresh_coding};
+ghost use Rattle.av1_unit.specs.Sound.{AreCdfs};
 
 /// For each step that breaks no rule there is exactly one list of symbols that leads a reader to its answer.
 pub fn law_of_steps()
@@ -17,9 +19,10 @@ pub fn law_of_steps()
 {}
 
 /// A reader that is led by the questions of steps that break no rule takes exactly their answers from the final bytes of
-/// the interval where coding them ends, and comes to exactly that interval and tile.
+/// the interval where coding them ends, and comes to exactly that interval and tile, whatever valid distributions the tile
+/// starts from.
 pub fn law_of_reading_steps()
-    ensures { (cols rows : ℕ) (steps : List TileStep) → let at = fresh_coding cols rows in
-        first_broken_step 0 at steps ≡ None →
+    ensures { (cols rows : ℕ) (numbers : List ℕ) (steps : List TileStep) → let at = fresh_coding cols rows numbers in
+        AreCdfs numbers → first_broken_step 0 at steps ≡ None →
         read_steps (map question_of steps) (final_bytes (after_all at steps).interval) at ≡ Some (map answer_of steps, after_all at steps) }
 {}

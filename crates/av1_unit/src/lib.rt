@@ -5,17 +5,21 @@
 //! of the bytes is said in `specs/Headline.antt`.
 //!
 //! - `unit`: what is given: a frame, a script of steps
-//! - `write`: `unit_bytes`, `write_unit`
+//! - `write`: `unit_bytes`, `write_unit`, `count_tile`
 //! - `coding`: from the items of a script to the bytes of a tile
-//! - `tile`, `area`: the state of a tile, its rules, and one step in it
+//! - `tile`, `area`: the state of a tile, its rules, and one step in it (`write_step`)
+//! - `check`: what is wrong with a step (`check_step`)
+//! - `frame`: the rules of a frame
 //! - `header`, `framing`: the bits of the headers, and the OBUs
 //! - `report`, `error`: what is answered
 //! - `laws`: theorems of steps and of lists of steps
 #![tactic(auto)]
 
 mod area;
+mod check;
 mod coding;
 mod error;
+mod frame;
 mod framing;
 mod header;
 mod laws;
@@ -24,8 +28,11 @@ mod tile;
 mod unit;
 mod write;
 
-pub use error::{Place, UnitError};
+pub use check::check_step;
+pub use error::{Place, StepFault, UnitError};
+pub use frame::check_frame;
 pub use laws::{law_of_reading_steps, law_of_steps};
 pub use report::{Report, TileReport, TrialCost};
+pub use tile::{CurrentBlock, TileState};
 pub use unit::{Item, TileScript, TileStep, Unit, Via};
-pub use write::{unit_bytes, write_unit};
+pub use write::{count_tile, unit_bytes, write_unit};

@@ -1,13 +1,17 @@
 // The state of a tile, which steps move on.
-ghost use Rattle.std.specs.Prelude.{◌≡◌, ℕ, ◌+◌, ◌*◌, ◌^◌, ◌<◌, ◌≤◌, List, [], length, slice_index_or, option_map, None, IsSome, IfOk, OnOk, OnErr, if◌then◌else◌};
+ghost use Rattle.std.specs.Prelude.{◌≡◌, ℕ, ◌&&◌, nat_lt, ◌+◌, ◌*◌, ◌^◌, ◌<◌, ◌≤◌, length, option_map, None, IsSome, IfOk, OnOk, OnErr};
 ghost use Rattle.std.specs.Option.{ForSome};
-ghost use Rattle.av1_model.specs.Cdf.{IsCdf, token_of, adapt};
-ghost use Rattle.av1_model.specs.Position.{advance, advance_all};
+ghost use Rattle.av1_model.specs.Position.{advance_all};
+ghost use Rattle.av1_ec.specs.Checkpoint.{KeepsCheckpoints};
+ghost use Rattle.av1_unit.specs.Sound.{AreCdfs};
 
-use crate::TileStep;
 use crate::area::Area;
-use av1_ec::{Writer, update_cdf};
-use av1_geometry::{BlockSize, OutOfMemory, Rule};
+use crate::frame::blocks_mi;
+use crate::header::BASE_Q_IDX;
+use crate::{TileStep, Unit};
+use av1_cdf::{CDFContext, CDFContextLog};
+use av1_ec::Writer;
+use av1_geometry::{BlockOffset, BlockSize, OutOfMemory, Rule};
 use std::alloc::Global;
 
 /// The block that the steps speak of.
@@ -20,18 +24,21 @@ pub struct CurrentBlock {
     pub size: BlockSize,
 }
 
-/// What decides how the next step is coded.
+/// The state of a tile: what decides how the next step is coded. It moves on by the steps that are written
+/// (`write_step`).
 #[derive(Drop)]
-pub(crate) struct TileState {
+pub struct TileState {
     cols: usize,
     rows: usize,
-    skip_cdfs: [[u16; 2]; 3],
+    fc: CDFContext,
+    // What a step changes in the context, until the step is done.
+    fc_log: CDFContextLog,
     // The skip flags, row by row.
     skips: Vec<bool>,
     current: Option<CurrentBlock>,
     ghost grid: { length skips.items ≡ cols * rows },
     ghost few: { cols * rows ≤ 2 ^ 22 },
-    ghost cdfs: { (k : ℕ) → k < 3 → IsCdf (slice_index_or skip_cdfs k []) },
+    ghost cdfs: { AreCdfs fc },
     ghost inside: { ForSome current (λ b. (b.x < cols) × (b.y < rows)) },
 }
 
@@ -40,24 +47,76 @@ impl TileState {
     ghost use Rattle.av1_unit.specs.Tile.{fresh, skip_context, with_skip};
     ghost use Rattle.av1_unit.specs.declared.unit.TileStep.TheVariants.{Skip};
     ghost use Rattle.av1_unit.specs.Script.{tile_after, tokens_of};
-    ghost use Rattle.av1_unit.specs.Step.{rules, first_broken, question_of, IsBlock, IsSkip, entered_block};
+    ghost use Rattle.av1_cdf.specs.Tables.{first_broken};
+    ghost use Rattle.av1_unit.specs.Step.{rules, question_of, step_fault, IsBlock, IsSkip, entered_block};
+    ghost use Rattle.av1_cdf.specs.Tables.{table_rules};
+    ghost use Rattle.av1_unit.specs.Headline.{begin, frame_rules};
 
-    /// A tile before its first step.
-    pub fn new(alloc: Global, cols: usize, rows: usize) -> Result<Self, OutOfMemory>
-        requires { cols * rows ≤ 2 ^ 22 }
-        ensures { IfOk result (λ s. tile_of s ≡ fresh cols rows) }
+    /// A tile of a unit before its first step.
+    pub fn new(alloc: Global, unit: &Unit, tile: usize) -> Result<Self, OutOfMemory>
+        requires tables { first_broken (table_rules unit.now.tables) ≡ None }
+        requires frame { first_broken (frame_rules unit.now) ≡ None }
+        requires tile { tile < 1 }
+        ensures { IfOk result (λ s. tile_of s ≡ (begin unit.now).context) }
+    {
+        let (cols, rows) = (blocks_mi(unit.width), blocks_mi(unit.height));
+        let fc = CDFContext::new(&unit.tables, BASE_Q_IDX);
+        TileState::fresh(alloc, cols, rows, &fc)
+    }
+
+    // A tile before its first step, whose distributions start from these.
+    pub(crate) fn fresh(
+        alloc: Global,
+        cols: usize,
+        rows: usize,
+        fc: &CDFContext,
+    ) -> Result<Self, OutOfMemory>
+        requires few { cols * rows ≤ 2 ^ 22 }
+        requires cdfs { AreCdfs fc.now }
+        ensures { IfOk result (λ s. tile_of s ≡ fresh cols rows fc.now) }
     {
         Ok(TileState {
             cols,
             rows,
-            skip_cdfs: [[16384, 0]; 3],
+            fc: fc.clone()?,
+            fc_log: CDFContextLog::new(alloc),
             skips: vec![in alloc; false; cols * rows]?,
             current: None,
         })
     }
 
-    /// The first rule that a step breaks.
-    pub fn check_step(&self, step: &TileStep) -> Option<Rule>
+    // A copy in new memory.
+    pub(crate) fn copy(&self, alloc: Global) -> Result<Self, OutOfMemory>
+        ensures { IfOk result (λ s. tile_of s ≡ tile_of self.now) }
+    {
+        let mut skips = Vec::new(alloc);
+        skips.extend_from_slice(&self.skips)?;
+        Ok(TileState {
+            cols: self.cols,
+            rows: self.rows,
+            fc: self.fc.clone()?,
+            fc_log: CDFContextLog::new(alloc),
+            skips,
+            current: self.current,
+        })
+    }
+
+    /// The block that steps speak of.
+    pub fn current(&self) -> Option<CurrentBlock>
+        ensures { result ≡ (tile_of self.now).current }
+    {
+        self.current
+    }
+
+    // Whether a place lies inside.
+    pub(crate) fn contains(&self, place: BlockOffset) -> bool
+        ensures { result ≡ (nat_lt place.x (tile_of self.now).cols && nat_lt place.y (tile_of self.now).rows) }
+    {
+        place.x < self.cols && place.y < self.rows
+    }
+
+    // The first rule that a step breaks.
+    pub(crate) fn broken_rule(&self, step: &TileStep) -> Option<Rule>
         ensures { option_map (λ r. r.0) result ≡ first_broken (rules (question_of step.now) (tile_of self.now)) }
     {
         match step {
@@ -143,23 +202,36 @@ impl TileState {
         ensures tile { OnOk result (tile_of self.new ≡ tile_after (tile_of self.old) (Skip skip)) }
         ensures writer { OnOk result (W.position w.new ≡ advance_all (W.position w.old) (tokens_of (Skip skip) (tile_of self.old))) }
         ensures refused { OnErr result ((tile_of self.new ≡ tile_of self.old) × (W.position w.new ≡ W.position w.old)) }
+        ensures kept { KeepsCheckpoints W.stored W.IsReached W.position_at w.old w.new }
     {
         let block = self.current.unwrap();
-        let context = self.skip_context(block);
-        let mut cdf = self.skip_cdfs[context];
-        write_adaptive_flag(w, &mut cdf, skip)?;
-        self.skip_cdfs[context] = cdf;
+        let cdf = CDFContext::skip_cdfs(self.skip_context(block));
+        w.symbol_with_update(u32::from(skip), cdf, &mut self.fc_log, &mut self.fc)?;
+        self.fc_log.clear();
         self.set_skip(block, skip);
         Ok(())
     }
 
-    /// Writes a step that breaks no rule. A refusal leaves tile and writer as they were.
+    /// Writes a step in which `check_step` finds no fault: the writer moves by the tokens of the step, and the state as its
+    /// answer says. A refusal leaves both as they were.
     pub fn write_step<W: Writer>(&mut self, w: &mut W, step: &TileStep) -> Result<(), OutOfMemory>
+        requires { step_fault (tile_of self.old) ((W.position w.old).shift + 1) step.now ≡ None }
+        ensures tile { OnOk result (tile_of self.new ≡ tile_after (tile_of self.old) step.now) }
+        ensures writer { OnOk result (W.position w.new ≡ advance_all (W.position w.old) (tokens_of step.now (tile_of self.old))) }
+        ensures refused { OnErr result ((tile_of self.new ≡ tile_of self.old) × (W.position w.new ≡ W.position w.old)) }
+        ensures kept { KeepsCheckpoints W.stored W.IsReached W.position_at w.old w.new }
+    {
+        self.write_allowed(w, step)
+    }
+
+    // Writes a step that breaks no rule and begins early enough.
+    fn write_allowed<W: Writer>(&mut self, w: &mut W, step: &TileStep) -> Result<(), OutOfMemory>
         requires rules { first_broken (rules (question_of step.now) (tile_of self.old)) ≡ None }
         requires shift { (W.position w.old).shift + 13 ≤ 2 ^ 28 + 2 ^ 24 }
         ensures tile { OnOk result (tile_of self.new ≡ tile_after (tile_of self.old) step.now) }
         ensures writer { OnOk result (W.position w.new ≡ advance_all (W.position w.old) (tokens_of step.now (tile_of self.old))) }
         ensures refused { OnErr result ((tile_of self.new ≡ tile_of self.old) × (W.position w.new ≡ W.position w.old)) }
+        ensures kept { KeepsCheckpoints W.stored W.IsReached W.position_at w.old w.new }
     {
         match step {
             TileStep::Block { x, y, size } => {
@@ -173,23 +245,4 @@ impl TileState {
             TileStep::Skip { answer } => self.write_skip(w, *answer),
         }
     }
-}
-
-// Codes a flag by an adaptive distribution.
-fn write_adaptive_flag<W: Writer>(
-    w: &mut W,
-    cdf: &mut [u16; 2],
-    flag: bool,
-) -> Result<(), OutOfMemory>
-    requires cdf { IsCdf cdf.old }
-    requires shift { (W.position w.old).shift + 13 ≤ 2 ^ 28 + 2 ^ 24 }
-    ensures ok { OnOk result (W.position w.new ≡ advance (W.position w.old) (token_of cdf.old (if flag then 1 else 0))) }
-    ensures adapted { OnOk result (cdf.new ≡ adapt cdf.old (if flag then 1 else 0)) }
-    ensures valid { IsCdf cdf.new }
-    ensures refused { OnErr result ((cdf.new ≡ cdf.old) × (W.position w.new ≡ W.position w.old)) }
-{
-    let symbol = u32::from(flag);
-    w.symbol(symbol, cdf)?;
-    update_cdf(cdf, symbol);
-    Ok(())
 }

@@ -1,12 +1,16 @@
 // What a unit says.
 ghost use Rattle.std.specs.Prelude.{List};
 
-use av1_geometry::BlockSize;
+use av1_cdf::Tables;
+use av1_geometry::{BlockSize, TileBlockOffset};
 use std::marker::Model;
 
 /// One temporal unit: a still picture without chroma in one tile.
 #[derive(Debug, Drop)]
 pub struct Unit {
+    /// What the distributions start from: four sets of 5528 numbers, for quantizers up to 20, 60, 120 and 255.
+    pub tables: Tables,
+
     /// The frame's width in luma samples.
     pub width: usize,
 
@@ -35,7 +39,17 @@ impl Model for TileScript {
 /// One item of a script.
 #[derive(Clone, Copy, Debug, PartialEq, Eq)]
 pub enum Item {
+    /// Something is coded, or becomes the current block.
     Step(TileStep),
+
+    /// A trial begins at this place. What follows is tried, up to the item that ends the trial.
+    Begin(TileBlockOffset),
+
+    /// The innermost trial ends, and what was tried stays.
+    Keep,
+
+    /// The innermost trial ends, and what was tried is undone.
+    Abandon,
 }
 
 /// One step: a question, which the reader is given, and its answer, which the bytes hold.
@@ -56,4 +70,7 @@ pub enum Via {
     /// Through an encoder.
     #[default]
     Direct,
+
+    /// Through a recorder, which is then replayed into an encoder.
+    Recorded,
 }

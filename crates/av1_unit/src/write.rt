@@ -1,46 +1,40 @@
 // A unit to its bytes, and to a sink.
-ghost use Rattle.std.specs.Prelude.{◌≡◌, ◌⊎◌, ℕ, ◌≤◌, ◌<◌, [], ◌∷◌, length, take, Some, None, option_map, IfOk, IfErr, OnErr, IsErrOf};
+ghost use Rattle.std.specs.Prelude.{◌≡◌, ◌⊎◌, ℕ, ◌≤◌, ◌<◌, [], ◌∷◌, ◌^◌, length, take, Some, None, option_map, IfOk, IfErr, OnOk, OnErr, IsErrOf};
 ghost use Rattle.av1_bits.specs.Outside.{Rose, appended};
 ghost use Rattle.av1_unit.specs.declared.error.UnitError.TheVariants.{OutOfMemory as MemoryError, SinkFault};
-ghost use Rattle.av1_unit.specs.Header.{blocks_mi};
-ghost use Rattle.av1_unit.specs.Step.{first_broken};
-ghost use Rattle.av1_unit.specs.Headline.{frame_rules, first_refusal, IsWritten};
+ghost use Rattle.av1_unit.specs.Headline.{first_refusal, tile_report, IsWritten};
 
-use crate::coding::code_tile;
+use crate::coding::{CodedTile, code_by, code_tile};
+use crate::frame::check_frame;
 use crate::framing::frame_unit;
 use crate::{Place, Report, TileReport, Unit, UnitError, Via};
 use av1_bits::{Failed, Sink, send_all};
-use av1_geometry::{OutOfMemory, Rule};
+use av1_cdf::check_tables;
+use av1_ec::{Writer, WriterCounter};
+use av1_geometry::OutOfMemory;
 use std::alloc::Global;
-
-/// The longest side of a frame.
-const MAX_SIDE: usize = 65536;
-/// The most 4x4 blocks that a frame has.
-const MAX_BLOCKS: usize = 1 << 22;
-/// The most superblocks along the width of a tile.
-const MAX_TILE_COLS: usize = 64;
-/// The most superblocks of a tile.
-const MAX_TILE_AREA: usize = 2304;
 
 /// The bytes of a unit and its report, after all checks.
 ///
-/// `Refused` comes exactly where the first thing that is wrong with the unit is that rule at that place, unless memory
-/// runs out before. It never answers `SinkFault`.
+/// `Refused`, `BadScript` and `TooLong` come exactly where the first thing that is wrong with the unit is that rule at that
+/// place, that item of the script, or a step that would begin after too many bits, unless memory runs out before. It never
+/// answers `SinkFault`.
 pub fn unit_bytes(alloc: Global, unit: &Unit, via: Via) -> Result<(Vec<u8>, Report), UnitError>
-    requires script { length unit.now.script ≤ 65536 }
     ensures written { IfOk result (λ r. IsWritten unit.now r.0.items r.1) }
+    ensures tiles { IfOk result (λ r. r.1.tiles ≡ tile_report unit.now ∷ []) }
     ensures refused { IfErr result (λ e. (e ≡ MemoryError) ⊎ (first_refusal unit.now ≡ Some e)) }
 {
+    if let Some(rule) = check_tables(&unit.tables) {
+        let place = Place::Tables;
+        return Err(UnitError::Refused { place, rule });
+    }
     if let Some(rule) = check_frame(unit) {
         let place = Place::Frame;
         return Err(UnitError::Refused { place, rule });
     }
-    let (cols, rows) = (blocks_mi(unit.width), blocks_mi(unit.height));
-    let script = &unit.script;
-    let Via::Direct = via;
-    let (tile, bits) = code_tile(alloc, cols, rows, &script.items)?;
-    let bytes = frame_unit(alloc, unit, &tile)?;
-    let report = report_of(alloc, tile.len() as u32, bits)?;
+    let tile = code_tile(alloc, unit, via)?;
+    let bytes = frame_unit(alloc, unit, &tile.bytes)?;
+    let report = report_of(alloc, tile)?;
     Ok((bytes, report))
 }
 
@@ -54,7 +48,6 @@ pub fn write_unit<S: Sink>(
     unit: &Unit,
     via: Via,
 ) -> Result<Report, UnitError>
-    requires script { length unit.now.script ≤ 65536 }
     ensures sent { IfOk result (λ report. (bytes : _) × IsWritten unit.now bytes report
         × (S.sent out.new ≡ appended (S.sent out.old) bytes) × (S.faults out.new ≡ S.faults out.old)) }
     ensures refused { IfErr result (λ e. (e ≡ MemoryError) ⊎ (e ≡ SinkFault) ⊎ (first_refusal unit.now ≡ Some e)) }
@@ -71,38 +64,40 @@ pub fn write_unit<S: Sink>(
     }
 }
 
-// The first rule that a frame breaks.
-fn check_frame(unit: &Unit) -> Option<Rule>
-    ensures { option_map (λ r. r.0) result ≡ first_broken (frame_rules unit.now) }
+/// What `write_unit` reports of a tile, which is numbered from 0, told by a counter.
+///
+/// It checks the unit as `write_unit` does and has its errors, but never answers `SinkFault`. It makes no bytes.
+pub fn count_tile(alloc: Global, unit: &Unit, tile: usize) -> Result<TileReport, UnitError>
+    requires tile { tile < 1 }
+    ensures counted { IfOk result (λ r. r ≡ tile_report unit.now) }
+    ensures valid { OnOk result (first_refusal unit.now ≡ None) }
+    ensures refused { IfErr result (λ e. (e ≡ MemoryError) ⊎ (first_refusal unit.now ≡ Some e)) }
 {
-    let (width, height) = (unit.width, unit.height);
-    if width < 1 || width > MAX_SIDE || height < 1 || height > MAX_SIDE {
-        return Some(Rule(20));
+    if let Some(rule) = check_tables(&unit.tables) {
+        let place = Place::Tables;
+        return Err(UnitError::Refused { place, rule });
     }
-    if blocks_mi(width) * blocks_mi(height) > MAX_BLOCKS {
-        return Some(Rule(20));
+    if let Some(rule) = check_frame(unit) {
+        let place = Place::Frame;
+        return Err(UnitError::Refused { place, rule });
     }
-    let (sb_cols, sb_rows) = (width.div_ceil(64), height.div_ceil(64));
-    if sb_cols > MAX_TILE_COLS || sb_cols * sb_rows > MAX_TILE_AREA {
-        return Some(Rule(34));
-    }
-    None
+    let (counter, _) = code_by(alloc, unit, WriterCounter::new())?;
+    let bits = counter.tell();
+    let bytes = bits.div_ceil(8);
+    Ok(TileReport { bytes, bits })
 }
 
-// How many 4x4 blocks a side has: whole pairs of them.
-fn blocks_mi(side: usize) -> usize
-    requires { side ≤ 65536 }
-    ensures value { result ≡ blocks_mi side }
-    ensures few { result ≤ 16384 }
+// The report of a unit of one tile.
+fn report_of(alloc: Global, tile: CodedTile) -> Result<Report, OutOfMemory>
+    requires short { length tile.bytes.items < 2 ^ 32 }
+    ensures { IfOk result (λ r. r ≡ record { tiles = record { bytes = length tile.bytes.items; bits = tile.bits } ∷ []; trials = tile.trials.items }) }
 {
-    2 * side.div_ceil(8)
-}
-
-// A report of one tile, and no trials.
-fn report_of(alloc: Global, bytes: u32, bits: u32) -> Result<Report, OutOfMemory>
-    ensures { IfOk result (λ r. r ≡ record { tiles = record { bytes = bytes; bits = bits } ∷ []; trials = [] }) }
-{
+    let CodedTile {
+        bytes,
+        bits,
+        trials,
+    } = tile;
+    let bytes = bytes.len() as u32;
     let tiles = vec![in alloc; TileReport { bytes, bits }]?;
-    let trials = Vec::new(alloc);
     Ok(Report { tiles, trials })
 }

@@ -10,7 +10,7 @@ use Rattle.av1_unit.specs.declared.unit.Via.{Via}
 use Rattle.av1_unit.specs.Headline.{IsWritten, first_refusal}
 use Rattle.av1_unit.specs.Report.{ReportLists}
 use Rattle.av1_write.specs.declared.status.Status.{Status}
-use Rattle.av1_write.specs.declared.status.Status.TheVariants.{Sent, Usage, SourceFault, TooLarge, BadText, BadShape, Refused, SinkFault, OutOfMemory}
+use Rattle.av1_write.specs.declared.status.Status.TheVariants.{Sent, Usage, SourceFault, TooLarge, BadText, BadShape, Refused, BadScript, TooLong, SinkFault, OutOfMemory}
 use Rattle.av1_write.specs.Shape.{Shape, NoReading, Unfit, Fits, shape}
 use Rattle.av1_write.specs.Status.{IsBadShape, of_unit_error}
 use Rattle.av1_write.specs.Text.{unit_text}
@@ -35,6 +35,20 @@ pub record IsRefused (place : Place) (rule : Rule) (input : List ℕ) : Type 0 w
   pub via : Via
   pub fits : shape input ≡ Fits (unit, via)
   pub refusal : first_refusal unit ≡ Some (errors.Refused place rule)
+
+-- the script of the unit that the input stands for is bad at this item, and nothing before it is wrong
+pub record HasBadScript (tile item : ℕ) (input : List ℕ) : Type 0 where
+  pub unit : declared.Unit
+  pub via : Via
+  pub fits : shape input ≡ Fits (unit, via)
+  pub refusal : first_refusal unit ≡ Some (errors.BadScript tile item)
+
+-- the unit that the input stands for has a step here that would begin after too many bits, and nothing before it is wrong
+pub record IsTooLong (place : Place) (input : List ℕ) : Type 0 where
+  pub unit : declared.Unit
+  pub via : Via
+  pub fits : shape input ≡ Fits (unit, via)
+  pub refusal : first_refusal unit ≡ Some (errors.TooLong place)
 
 -- the unit that the input stands for is valid
 pub record IsValid (input : List ℕ) : Type 0 where
@@ -84,6 +98,8 @@ abbrev pub IsRefusal : Status → List ℕ → Type 0
 IsRefusal BadText input = shape input ≡ NoReading
 IsRefusal (BadShape path) input = shape input ≡ Unfit (string_bytes path)
 IsRefusal (Refused place rule) input = IsRefused place rule input
+IsRefusal (BadScript tile item) input = HasBadScript tile item input
+IsRefusal (TooLong place) input = IsTooLong place input
 IsRefusal OutOfMemory input = Unit {0}
 IsRefusal _ input = ⊥
 
@@ -95,6 +111,8 @@ Explains TooLarge words before after old new = TakesMore before after
 Explains BadText words before after old new = Reads before after (IsRefusal BadText)
 Explains (BadShape path) words before after old new = Reads before after (IsRefusal (BadShape path))
 Explains (Refused place rule) words before after old new = Reads before after (IsRefusal (Refused place rule))
+Explains (BadScript tile item) words before after old new = Reads before after (IsRefusal (BadScript tile item))
+Explains (TooLong place) words before after old new = Reads before after (IsRefusal (TooLong place))
 Explains OutOfMemory words before after old new = Unit {0}
 Explains _ words before after old new = ⊥
 

@@ -1,18 +1,19 @@
 -- What unit a JSON text stands for.
-use Rattle.std.specs.Prelude.{ℕ, ◌==◌, ◌&&◌, ℤ, pos, negsuc, List, [], ◌∷◌, Bool, true, false, nat_le, if◌then◌else◌, Option, Some, None, option_map, option_and_then, codes}
+use Rattle.std.specs.Prelude.{ℕ, ◌+◌, ◌==◌, ◌&&◌, ℤ, pos, negsuc, List, [], ◌∷◌, Bool, true, false, nat_le, if◌then◌else◌, Option, Some, None, is_some, codes}
 use Rattle.std.specs.Option.{option_map_or}
 use Rattle.std.specs.Str.{is_utf8, bytes_eq}
 use Rattle.serde_json.specs.Data.{Data, Items, no_items, item}
 use Rattle.serde_json.specs.Events.{items_len, members_len}
 use Rattle.serde_json.specs.Find.{get, as_array, as_bool, as_i64, as_number, as_object, as_str}
 use Rattle.serde_json.specs.Read.{read}
+use Rattle.av1_cdf.specs.Tables.{uniform_sets}
 use Rattle.av1_geometry.specs.BlockSize.{size_of}
 use Rattle.av1_unit.specs.declared.unit.Item.{Item}
-use Rattle.av1_unit.specs.declared.unit.Item.TheVariants.{Step}
+use Rattle.av1_unit.specs.declared.unit.Item.TheVariants.{Step, Begin, Keep, Abandon}
 use Rattle.av1_unit.specs.declared.unit.TileStep.TheVariants.{Block, Skip}
 use Rattle.av1_unit.specs.declared.unit.Unit.{Unit}
 use Rattle.av1_unit.specs.declared.unit.Via.{Via}
-use Rattle.av1_unit.specs.declared.unit.Via.TheVariants.{Direct}
+use Rattle.av1_unit.specs.declared.unit.Via.TheVariants.{Direct, Recorded}
 
 infixl 10 ◌>>=◌
 abbrev pub ◌>>=◌ : {A B : Type 0} → Option A → (A → Option B) → Option B
@@ -41,11 +42,11 @@ number_at name d = do
   whole ← as_i64 number
   natural whole
 
--- the same where it is at most 64
+-- the same where it is at most 128
 unfoldable pub side_at : List ℕ → Data → Option ℕ
 side_at name d = do
   side ← number_at name d
-  nat_le side 64
+  nat_le side 128
   Some side
 
 -- a frame is its width and its height
@@ -78,10 +79,27 @@ skip_of d = do
   answer ← as_bool a
   Some (Step (Skip answer))
 
+-- the beginning of a trial is its place
+unfoldable pub begin_of : Data → Option Item
+begin_of d = do
+  has_members 3 d
+  x ← number_at (codes "x") d
+  y ← number_at (codes "y") d
+  Some (Begin record { 0 = record { x = x; y = y } })
+
+-- the end of a trial is nothing but its kind
+unfoldable pub end_of : Item → Data → Option Item
+end_of end d = do
+  has_members 1 d
+  Some end
+
 abbrev pub item_named : List ℕ → Data → Option Item
 item_named name d =
     if bytes_eq name (codes "Block") then block_of d
     else if bytes_eq name (codes "Skip") then skip_of d
+    else if bytes_eq name (codes "Begin") then begin_of d
+    else if bytes_eq name (codes "Keep") then end_of Keep d
+    else if bytes_eq name (codes "Abandon") then end_of Abandon d
     else None
 
 -- an item says by `op` which kind it is
@@ -91,12 +109,53 @@ item_of d = do
   name ← as_str op
   item_named name d
 
-abbrev pub items_of : Items → Option (List Item)
-items_of no_items = Some []
-items_of (item d ds) = do
-  first ← item_of d
-  others ← items_of ds
+-- what each of a list stands for
+abbrev pub all_of : {A : Type 0} → (Data → Option A) → Items → Option (List A)
+all_of one no_items = Some []
+all_of one (item d ds) = do
+  first ← one d
+  others ← all_of one ds
   Some (first ∷ others)
+
+abbrev pub items_of : Items → Option (List Item)
+items_of = all_of item_of
+
+-- a number of a distribution has 16 bits
+unfoldable pub entry_of : Data → Option ℕ
+entry_of d = do
+  number ← as_number d
+  whole ← as_i64 number
+  value ← natural whole
+  nat_le value 65535
+  Some value
+
+unfoldable pub set_of : Data → Option (List ℕ)
+set_of d = do
+  entries ← as_array d
+  all_of entry_of entries
+
+unfoldable pub four_of : Data → Option Items
+four_of d = do
+  sets ← as_array d
+  items_len sets == 4
+  Some sets
+
+-- tables are four sets of numbers, or the uniform ones by name
+unfoldable pub is_uniform : Data → Bool
+is_uniform d = option_map_or (λ name. bytes_eq name (codes "uniform")) (as_str d) false
+
+unfoldable pub given_of : Data → Option (List (List ℕ))
+given_of d = do
+  sets ← four_of d
+  all_of set_of sets
+
+abbrev pub tables_of : Data → Option (List (List ℕ))
+tables_of d = if is_uniform d then Some uniform_sets else given_of d
+
+-- where none are given, the uniform ones
+abbrev pub tables_at : Option Data → Option (List (List ℕ))
+tables_at None = Some uniform_sets
+tables_at (Some d) = tables_of d
 
 -- the item of a list of one
 abbrev pub only_item : Items → Option Data
@@ -109,14 +168,30 @@ unfoldable pub tile_of : Data → Option Items
 tile_of d = do
   tiles ← as_array d
   tile ← only_item tiles
-  items ← as_array tile
-  nat_le (items_len items) 65536
-  Some items
+  as_array tile
+
+-- the way of a tile's symbols to its bytes, by name
+abbrev pub via_named : List ℕ → Option Via
+via_named name = if bytes_eq name (codes "direct") then Some Direct else if bytes_eq name (codes "recorded") then Some Recorded else None
+
+unfoldable pub via_of : Data → Option Via
+via_of d = do
+  name ← as_str d
+  via_named name
+
+-- where none is given, the direct one
+abbrev pub via_at : Option Data → Option Via
+via_at None = Some Direct
+via_at (Some d) = via_of d
+
+-- how many members a unit has: tables and the way are left out at will
+unfoldable pub members_of : Data → ℕ
+members_of d = 3 + (if is_some (get (codes "tables") d) then 1 else 0) + (if is_some (get (codes "via") d) then 1 else 0)
 
 -- a unit is a sequence, a frame and tiles
 unfoldable pub parts_of : Data → Option ((ℕ × ℕ) × Items)
 parts_of d = do
-  has_members 3 d
+  has_members (members_of d) d
   seq ← get (codes "seq") d
   has_no_chroma seq
   frame ← get (codes "frame") d
@@ -129,8 +204,10 @@ parts_of d = do
 unfoldable pub unit_of : Data → Option (Unit × Via)
 unit_of d = do
   parts ← parts_of d
+  tables ← tables_at (get (codes "tables") d)
+  via ← via_at (get (codes "via") d)
   script ← items_of parts.1
-  Some (record { width = parts.0.0; height = parts.0.1; script = script }, Direct)
+  Some (record { tables = tables; width = parts.0.0; height = parts.0.1; script = script }, via)
 
 -- what a text is: no JSON, JSON that has at this path something that is no part of a unit, or a unit
 pub data Shape : Type 0 where

@@ -1,7 +1,7 @@
 // One run of the program.
 ghost use Rattle.std.specs.Prelude.{◌≡◌, ◌^◌, ◌≤◌, ◌↔◌, ◌⊎◌, ℕ, List, IfOk, IfErr, IsTrue, length, map, string_bytes};
 ghost use Rattle.av1_bits.specs.Outside.{Rose, Still, appended};
-ghost use Rattle.av1_write.specs.Run.{Explains, IsAnswer, IsGiven, IsRefusal, IsRefused, IsSentFront, IsTextOf, IsValid, IsWrite, Reads, Receives, ReceivesFront, TakesAtMost, TakesMore};
+ghost use Rattle.av1_write.specs.Run.{Explains, HasBadScript, IsTooLong, IsAnswer, IsGiven, IsRefusal, IsRefused, IsSentFront, IsTextOf, IsValid, IsWrite, Reads, Receives, ReceivesFront, TakesAtMost, TakesMore};
 ghost use Rattle.av1_write.specs.Shape.{NoReading, Unfit, shape};
 ghost use Rattle.av1_write.specs.Status.{HasFixedLine, IsBadShape, line_of};
 ghost use Rattle.av1_unit.specs.declared.error.Place.{Place};
@@ -102,6 +102,8 @@ pub fn run<R: Source, S: Sink, E: Sink>(
     ensures bad_text { result ≡ Status.BadText → Reads (R.left source.old) (R.left source.new) (λ input. shape input ≡ NoReading) }
     ensures bad_shape { (path : List ℕ) → IsBadShape path result → Reads (R.left source.old) (R.left source.new) (λ input. shape input ≡ Unfit path) }
     ensures refused { (place : Place) (rule : Rule) → result ≡ Status.Refused place rule → Reads (R.left source.old) (R.left source.new) (IsRefused place rule) }
+    ensures bad_script { (tile item : ℕ) → result ≡ Status.BadScript tile item → Reads (R.left source.old) (R.left source.new) (HasBadScript tile item) }
+    ensures too_long { (place : Place) → result ≡ Status.TooLong place → Reads (R.left source.old) (R.left source.new) (IsTooLong place) }
     ensures sink_fault { result ≡ Status.SinkFault → Rose (S.faults out.old) (S.faults out.new) }
     ensures sink_count { (result ≡ Status.SinkFault) ⊎ (S.faults out.new ≡ S.faults out.old) }
 

@@ -1,19 +1,18 @@
 // From JSON to a unit.
-ghost use Rattle.std.specs.Prelude.{◌≡◌, IfOk, IfErr, Some, option_map};
+ghost use Rattle.std.specs.Prelude.{◌≡◌, IfOk, IfErr, Some, option_map, codes};
+ghost use Rattle.serde_json.specs.Find.{get};
 ghost use Rattle.serde_json.specs.View.{view, items_view};
-ghost use Rattle.av1_write.specs.Shape.{has_members, has_no_chroma, number_at, side_at, sides_of, block_of, skip_of, item_of, items_of, only_item, tile_of, parts_of, unit_of, json_of, shape, Fits};
+ghost use Rattle.av1_write.specs.Shape.{has_members, has_no_chroma, number_at, side_at, sides_of, block_of, skip_of, begin_of, end_of, item_of, items_of, only_item, tile_of, all_of, entry_of, set_of, four_of, is_uniform, given_of, tables_at, via_of, via_at, members_of, parts_of, unit_of, json_of, shape, Fits};
 ghost use Rattle.av1_write.specs.Cause.{IsCause};
 
-use av1_geometry::{BlockSize, OutOfMemory};
+use av1_cdf::Tables;
+use av1_geometry::{BlockOffset, BlockSize, OutOfMemory, TileBlockOffset};
 use av1_unit::{Item, TileScript, TileStep, Unit, Via};
 use serde_json::{Category, Value};
 use std::alloc::Global;
 
 /// The largest side of a frame.
-const MOST_SIDE: usize = 64;
-
-/// The largest number of items in a tile.
-const MOST_ITEMS: usize = 65536;
+const MOST_SIDE: usize = 128;
 
 #[tactic(auto, using(crate::proofs::Values::members_len_is), unfolding(crate::specs::Shape::has_members))]
 fn has_members(value: &Value, count: usize) -> bool
@@ -83,6 +82,29 @@ fn skip(item: &Value) -> Option<Item>
     Some(Item::Step(TileStep::Skip { answer }))
 }
 
+#[tactic(auto, unfolding(crate::specs::Shape::begin_of))]
+fn begin(item: &Value) -> Option<Item>
+    ensures { result ≡ begin_of (view item.now) }
+{
+    if !has_members(item, 3) {
+        return None;
+    }
+    let x = number(item, "x")?;
+    let y = number(item, "y")?;
+    Some(Item::Begin(TileBlockOffset(BlockOffset { x, y })))
+}
+
+#[tactic(auto, unfolding(crate::specs::Shape::end_of))]
+fn end(item: &Value, end: Item) -> Option<Item>
+    ensures { result ≡ end_of end (view item.now) }
+{
+    if has_members(item, 1) {
+        Some(end)
+    } else {
+        None
+    }
+}
+
 #[tactic(auto, unfolding(crate::specs::Shape::item_of))]
 fn item(item: &Value) -> Option<Item>
     ensures { result ≡ item_of (view item.now) }
@@ -90,6 +112,9 @@ fn item(item: &Value) -> Option<Item>
     match item.get("op")?.as_str()? {
         "Block" => block(item),
         "Skip" => skip(item),
+        "Begin" => begin(item),
+        "Keep" => end(item, Item::Keep),
+        "Abandon" => end(item, Item::Abandon),
         _ => None,
     }
 }
@@ -105,16 +130,11 @@ fn only(list: &Vec<Value>) -> Option<&Value>
     }
 }
 
-#[tactic(auto, using(crate::proofs::Values::items_len_is), unfolding(crate::specs::Shape::tile_of))]
+#[tactic(auto, unfolding(crate::specs::Shape::tile_of))]
 fn tile(tiles: &Value) -> Option<&Vec<Value>>
     ensures { option_map (λ v. items_view v.now.items) result ≡ tile_of (view tiles.now) }
 {
-    let items = only(tiles.as_array()?)?.as_array()?;
-    if items.len() <= MOST_ITEMS {
-        Some(items)
-    } else {
-        None
-    }
+    only(tiles.as_array()?)?.as_array()
 }
 
 #[tactic(auto, using(crate::proofs::Values::goes_on, crate::proofs::Values::stops, crate::proofs::Values::ends))]
@@ -131,11 +151,122 @@ fn script(alloc: Global, tile: &Vec<Value>) -> Result<Option<TileScript>, OutOfM
     Ok(Some(TileScript { items }))
 }
 
+#[tactic(auto, unfolding(crate::specs::Shape::entry_of))]
+fn entry(value: &Value) -> Option<u16>
+    ensures { result ≡ entry_of (view value.now) }
+{
+    u16::try_from(value.as_i64()?).ok()
+}
+
+#[tactic(auto, using(crate::proofs::Values::entry_goes_on, crate::proofs::Values::entry_stops, crate::proofs::Values::entry_ends))]
+fn entries(alloc: Global, values: &Vec<Value>) -> Result<Option<Vec<u16>>, OutOfMemory>
+    ensures { IfOk result (λ found. option_map (λ v. v.items) found ≡ all_of entry_of (items_view values.now.items)) }
+{
+    let mut set = Vec::with_capacity(alloc, values.len())?;
+    for value in values {
+        match entry(value) {
+            Some(entry) => set.push(entry)?,
+            None => return Ok(None),
+        }
+    }
+    Ok(Some(set))
+}
+
+#[tactic(auto, unfolding(crate::specs::Shape::set_of))]
+fn set(alloc: Global, value: &Value) -> Result<Option<Vec<u16>>, OutOfMemory>
+    ensures { IfOk result (λ found. option_map (λ v. v.items) found ≡ set_of (view value.now)) }
+{
+    match value.as_array() {
+        Some(values) => entries(alloc, values),
+        None => Ok(None),
+    }
+}
+
+#[tactic(auto, using(crate::proofs::Values::set_goes_on, crate::proofs::Values::set_stops, crate::proofs::Values::set_ends))]
+fn sets(alloc: Global, values: &Vec<Value>) -> Result<Option<Tables>, OutOfMemory>
+    ensures { IfOk result (λ found. found ≡ all_of set_of (items_view values.now.items)) }
+{
+    let mut sets = Vec::new(alloc);
+    for value in values {
+        match set(alloc, value)? {
+            Some(set) => sets.push(set)?,
+            None => return Ok(None),
+        }
+    }
+    Ok(Some(Tables { sets }))
+}
+
+#[tactic(auto, using(crate::proofs::Values::items_len_is), unfolding(crate::specs::Shape::four_of))]
+fn four(value: &Value) -> Option<&Vec<Value>>
+    ensures { option_map (λ v. items_view v.now.items) result ≡ four_of (view value.now) }
+{
+    let sets = value.as_array()?;
+    if sets.len() == 4 { Some(sets) } else { None }
+}
+
+#[tactic(auto, unfolding(crate::specs::Shape::is_uniform))]
+fn is_uniform(value: &Value) -> bool
+    ensures { result ≡ is_uniform (view value.now) }
+{
+    match value.as_str() {
+        Some(name) => name == "uniform",
+        None => false,
+    }
+}
+
+#[tactic(auto, unfolding(crate::specs::Shape::given_of))]
+fn given(alloc: Global, value: &Value) -> Result<Option<Tables>, OutOfMemory>
+    ensures { IfOk result (λ found. found ≡ given_of (view value.now)) }
+{
+    match four(value) {
+        Some(values) => sets(alloc, values),
+        None => Ok(None),
+    }
+}
+
+fn tables(alloc: Global, unit: &Value) -> Result<Option<Tables>, OutOfMemory>
+    ensures { IfOk result (λ found. found ≡ tables_at (get (codes "tables") (view unit.now))) }
+{
+    match unit.get("tables") {
+        Some(tables) if !is_uniform(tables) => given(alloc, tables),
+        _ => Ok(Some(Tables::uniform(alloc)?)),
+    }
+}
+
+#[tactic(auto, unfolding(crate::specs::Shape::via_of))]
+fn via_of(value: &Value) -> Option<Via>
+    ensures { result ≡ via_of (view value.now) }
+{
+    match value.as_str()? {
+        "direct" => Some(Via::Direct),
+        "recorded" => Some(Via::Recorded),
+        _ => None,
+    }
+}
+
+fn via(unit: &Value) -> Option<Via>
+    ensures { result ≡ via_at (get (codes "via") (view unit.now)) }
+{
+    match unit.get("via") {
+        Some(via) => via_of(via),
+        None => Some(Via::Direct),
+    }
+}
+
+#[tactic(auto, unfolding(crate::specs::Shape::members_of))]
+fn members(unit: &Value) -> usize
+    ensures { result ≡ members_of (view unit.now) }
+{
+    let tables = unit.get("tables").is_some();
+    let via = unit.get("via").is_some();
+    3 + usize::from(tables) + usize::from(via)
+}
+
 #[tactic(auto, unfolding(crate::specs::Shape::parts_of))]
 fn parts(value: &Value) -> Option<((usize, usize), &Vec<Value>)>
     ensures { option_map (λ p. (p.0, items_view p.1.now.items)) result ≡ parts_of (view value.now) }
 {
-    if !has_members(value, 3) || !has_no_chroma(value.get("seq")?) {
+    if !has_members(value, members(value)) || !has_no_chroma(value.get("seq")?) {
         return None;
     }
     let sides = sides(value.get("frame")?)?;
@@ -150,15 +281,22 @@ fn unit(alloc: Global, value: &Value) -> Result<Option<(Unit, Via)>, OutOfMemory
     let Some(((width, height), tile)) = parts(value) else {
         return Ok(None);
     };
+    let Some(tables) = tables(alloc, value)? else {
+        return Ok(None);
+    };
+    let Some(via) = via(value) else {
+        return Ok(None);
+    };
     let Some(script) = script(alloc, tile)? else {
         return Ok(None);
     };
     let unit = Unit {
+        tables,
         width,
         height,
         script,
     };
-    Ok(Some((unit, Via::Direct)))
+    Ok(Some((unit, via)))
 }
 
 /// Why a text gives no unit.

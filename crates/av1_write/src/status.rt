@@ -1,7 +1,7 @@
 // How the program ends.
 ghost use Rattle.std.specs.Prelude.{◌≡◌, ◌⊎◌, IfOk, IsOk, string_bytes};
 ghost use Rattle.std.specs.Cow.{cow_str_bytes};
-ghost use Rattle.av1_write.specs.Status.{number_of, line_of, HasFixedLine, place_text, refused_line, bad_shape_line};
+ghost use Rattle.av1_write.specs.Status.{number_of, line_of, HasFixedLine, place_text, refused_line, bad_script_line, too_long_line, bad_shape_line};
 
 use crate::shape::ShapeError;
 use av1_bits::ReadError;
@@ -36,6 +36,13 @@ pub enum Status {
     /// The unit breaks a rule at this place.
     Refused { place: Place, rule: Rule },
 
+    /// At this item of the tile's script a trial ends that has not begun, or a place lies in another superblock than the
+    /// innermost trial's. At its end, the place after the last item, a trial has not ended.
+    BadScript { tile: u32, item: usize },
+
+    /// A step of the unit would begin here after more than 2^28 bits, and nothing before it is wrong.
+    TooLong { place: Place },
+
     /// A write failed.
     SinkFault,
 
@@ -56,6 +63,8 @@ impl Status {
             Status::BadText => 4,
             Status::BadShape(_) => 5,
             Status::Refused { .. } => 6,
+            Status::BadScript { .. } => 7,
+            Status::TooLong { .. } => 8,
             Status::SinkFault => 9,
             Status::OutOfMemory => 10,
         }
@@ -76,6 +85,12 @@ impl Status {
             Status::BadShape(path) => return Ok(CowStr::Owned(bad_shape_line(alloc, path)?)),
             Status::Refused { place, rule } => {
                 return Ok(CowStr::Owned(refused_line(alloc, *place, *rule)?));
+            }
+            Status::BadScript { tile, item } => {
+                return Ok(CowStr::Owned(bad_script_line(alloc, *tile, *item)?));
+            }
+            Status::TooLong { place } => {
+                return Ok(CowStr::Owned(too_long_line(alloc, *place)?));
             }
             Status::SinkFault => "sink fault\n",
             Status::OutOfMemory => OUT_OF_MEMORY,
@@ -107,8 +122,10 @@ fn place_text(alloc: Global, place: Place) -> Result<String, OutOfMemory>
     ensures { IfOk result (λ text. string_bytes text ≡ place_text place) }
 {
     match place {
+        Place::Tables => Ok(String::from_str(alloc, "tables")?),
         Place::Frame => Ok(String::from_str(alloc, "frame")?),
         Place::Item { tile, item } => Ok(format!(in alloc; "tile {tile} item {item}")?),
+        Place::Obu { index } => Ok(format!(in alloc; "obu {index}")?),
     }
 }
 
@@ -119,6 +136,22 @@ fn refused_line(alloc: Global, place: Place, rule: Rule) -> Result<String, OutOf
     let place = place_text(alloc, place)?;
     let number = rule.0;
     Ok(format!(in alloc; "refused {place} r{number}\n")?)
+}
+
+#[tactic(auto, unfolding(crate::specs::Status::bad_script_line))]
+fn bad_script_line(alloc: Global, tile: u32, item: usize) -> Result<String, OutOfMemory>
+    ensures { IfOk result (λ line. string_bytes line ≡ bad_script_line tile item) }
+{
+    let place = place_text(alloc, Place::Item { tile, item })?;
+    Ok(format!(in alloc; "bad script {place}\n")?)
+}
+
+#[tactic(auto, unfolding(crate::specs::Status::too_long_line))]
+fn too_long_line(alloc: Global, place: Place) -> Result<String, OutOfMemory>
+    ensures { IfOk result (λ line. string_bytes line ≡ too_long_line place) }
+{
+    let place = place_text(alloc, place)?;
+    Ok(format!(in alloc; "too long {place}\n")?)
 }
 
 impl From<ReadError> for Status {
@@ -160,6 +193,8 @@ impl From<UnitError> for Status {
     fn from(error: UnitError) -> Self {
         match error {
             UnitError::Refused { place, rule } => Status::Refused { place, rule },
+            UnitError::BadScript { tile, item } => Status::BadScript { tile, item },
+            UnitError::TooLong { place } => Status::TooLong { place },
             UnitError::SinkFault => Status::SinkFault,
             UnitError::OutOfMemory => Status::OutOfMemory,
         }

@@ -7,6 +7,18 @@ use std::test::Fail;
 
 const SPACES: usize = 1 << 26;
 
+const BLOCK: &str = "{\"op\":\"Block\",\"x\":0,\"y\":0,\"size\":3}";
+
+const ON: &str = "{\"op\":\"Skip\",\"a\":true}";
+
+const OFF: &str = "{\"op\":\"Skip\",\"a\":false}";
+
+const BEGIN: &str = "{\"op\":\"Begin\",\"x\":0,\"y\":0}";
+
+const KEEP: &str = "{\"op\":\"Keep\"}";
+
+const ABANDON: &str = "{\"op\":\"Abandon\"}";
+
 fn sink(alloc: Global) -> Result<MemSink, Fail> {
     Ok(MemSink::new(alloc, 4096, false, Vec::new(alloc))?)
 }
@@ -55,14 +67,43 @@ fn an_empty_tile_is_one_bit(rt: HostRuntime) -> Result<(), Fail> {
 }
 
 #[test]
+fn tables_are_uniform_by_name(rt: HostRuntime) -> Result<(), Fail> {
+    let alloc = rt.alloc();
+    let start = "{\"seq\":{\"chroma_sampling\":3},\"frame\":{\"width\":8,\"height\":8}";
+    let named = format!(in alloc; "{start},\"tiles\":[[]],\"tables\":\"uniform\"}}")?;
+    let out = "12000a051808bf01103206164000000080\ntile 0 1 1\n";
+    answers(&rt, alloc, source(alloc, &named)?, 0, out, "")?;
+    let empty = format!(in alloc; "{start},\"tiles\":[[]],\"tables\":[[],[],[],[]]}}")?;
+    let err = "refused tables r1\n";
+    answers(&rt, alloc, source(alloc, &empty)?, 6, "", err)?;
+    let three = format!(in alloc; "{start},\"tiles\":[[]],\"tables\":[[],[],[]]}}")?;
+    let err = "bad shape at \n";
+    answers(&rt, alloc, source(alloc, &three)?, 5, "", err)
+}
+
+#[test]
+fn the_way_changes_no_byte(rt: HostRuntime) -> Result<(), Fail> {
+    let alloc = rt.alloc();
+    let start = "{\"seq\":{\"chroma_sampling\":3},\"frame\":{\"width\":8,\"height\":8}";
+    let trial = format!(in alloc; "{BLOCK},{BEGIN},{OFF},{ABANDON},{ON}")?;
+    let out = "12000a051808bf011032061640000000c0\ntile 0 1 2\ntrial 0 1 9 abandoned\n";
+    for way in ["direct", "recorded"] {
+        let text = format!(in alloc; "{start},\"tiles\":[[{trial}]],\"via\":\"{way}\"}}")?;
+        answers(&rt, alloc, source(alloc, &text)?, 0, out, "")?;
+    }
+    let text = format!(in alloc; "{start},\"tiles\":[[{trial}]],\"via\":\"other\"}}")?;
+    let err = "bad shape at \n";
+    answers(&rt, alloc, source(alloc, &text)?, 5, "", err)
+}
+
+#[test]
 fn a_skip_flag_chooses_the_half(rt: HostRuntime) -> Result<(), Fail> {
     let alloc = rt.alloc();
-    let block = "{\"op\":\"Block\",\"x\":0,\"y\":0,\"size\":3}";
-    let on = format!(in alloc; "{block},{{\"op\":\"Skip\",\"a\":true}}")?;
+    let on = format!(in alloc; "{BLOCK},{ON}")?;
     let on = frame(alloc, "8", &on)?;
     let out = "12000a051808bf011032061640000000c0\ntile 0 1 2\n";
     answers(&rt, alloc, source(alloc, &on)?, 0, out, "")?;
-    let off = format!(in alloc; "{block},{{\"op\":\"Skip\",\"a\":false}}")?;
+    let off = format!(in alloc; "{BLOCK},{OFF}")?;
     let off = frame(alloc, "8", &off)?;
     let out = "12000a051808bf01103206164000000020\ntile 0 1 3\n";
     answers(&rt, alloc, source(alloc, &off)?, 0, out, "")
@@ -76,6 +117,54 @@ fn a_skipped_neighbour_changes_the_distribution(rt: HostRuntime) -> Result<(), F
     let text = frame(alloc, "8", items)?;
     let out = "12000a051808bf011032061640000000a0\ntile 0 1 3\n";
     answers(&rt, alloc, source(alloc, &text)?, 0, out, "")
+}
+
+#[test]
+fn an_abandoned_trial_costs_and_leaves_no_trace(rt: HostRuntime) -> Result<(), Fail> {
+    let alloc = rt.alloc();
+    let once = format!(in alloc; "{BLOCK},{BEGIN},{OFF},{ABANDON},{ON}")?;
+    let once = frame(alloc, "8", &once)?;
+    let out = "12000a051808bf011032061640000000c0\ntile 0 1 2\ntrial 0 1 9 abandoned\n";
+    answers(&rt, alloc, source(alloc, &once)?, 0, out, "")?;
+    let thrice = format!(in alloc; "{BLOCK},{BEGIN},{ON},{ON},{ON},{ABANDON}")?;
+    let thrice = frame(alloc, "8", &thrice)?;
+    let out = "12000a051808bf01103206164000000080\ntile 0 1 1\ntrial 0 1 22 abandoned\n";
+    answers(&rt, alloc, source(alloc, &thrice)?, 0, out, "")
+}
+
+#[test]
+fn a_trial_of_nothing_is_kept_at_no_cost(rt: HostRuntime) -> Result<(), Fail> {
+    let alloc = rt.alloc();
+    let empty = format!(in alloc; "{BEGIN},{KEEP}")?;
+    let empty = frame(alloc, "8", &empty)?;
+    let out = "12000a051808bf01103206164000000080\ntile 0 1 1\ntrial 0 0 0 kept\n";
+    answers(&rt, alloc, source(alloc, &empty)?, 0, out, "")
+}
+
+#[test]
+fn what_is_wrong_in_an_abandoned_trial_is_told(rt: HostRuntime) -> Result<(), Fail> {
+    let alloc = rt.alloc();
+    let outside = "{\"op\":\"Block\",\"x\":9,\"y\":0,\"size\":3}";
+    let outside = format!(in alloc; "{BLOCK},{BEGIN},{outside},{ABANDON}")?;
+    let outside = frame(alloc, "8", &outside)?;
+    let err = "refused tile 0 item 2 r60\n";
+    answers(&rt, alloc, source(alloc, &outside)?, 6, "", err)
+}
+
+#[test]
+fn a_script_is_bad_where_a_trial_is(rt: HostRuntime) -> Result<(), Fail> {
+    let alloc = rt.alloc();
+    let twice = format!(in alloc; "{BEGIN},{KEEP},{KEEP}")?;
+    let twice = frame(alloc, "8", &twice)?;
+    let err = "bad script tile 0 item 2\n";
+    answers(&rt, alloc, source(alloc, &twice)?, 7, "", err)?;
+    let open = frame(alloc, "8", BEGIN)?;
+    let err = "bad script tile 0 item 1\n";
+    answers(&rt, alloc, source(alloc, &open)?, 7, "", err)?;
+    let next = "{\"op\":\"Block\",\"x\":16,\"y\":0,\"size\":3}";
+    let strays = format!(in alloc; "{BEGIN},{next}")?;
+    let strays = frame(alloc, "128", &strays)?;
+    answers(&rt, alloc, source(alloc, &strays)?, 7, "", err)
 }
 
 #[test]
@@ -94,7 +183,7 @@ fn what_is_wrong_is_told(rt: HostRuntime) -> Result<(), Fail> {
         "",
         "refused frame r20\n",
     )?;
-    let flag = frame(alloc, "8", "{\"op\":\"Skip\",\"a\":true}")?;
+    let flag = frame(alloc, "8", ON)?;
     answers(
         &rt,
         alloc,

@@ -3,12 +3,12 @@ use Rattle.av1_model.proofs.Final.{holds_final}
 use Rattle.av1_unit.specs.Script.{after_all}
 use Rattle.av1_unit.specs.Headline.{fresh_coding}
 use Rattle.av1_unit.proofs.ReadingBack.{sound_after_all, read_all}
-use Rattle.av1_unit.proofs.Written.{fresh_sound}
+use Rattle.av1_unit.proofs.Fresh.{fresh_sound}
 use Rattle.av1_unit.proofs.laws.law_of_reading_steps.Goals as goal
 
 pub returns : goal.returns
-returns c cols rows steps allowed =
-    let at = fresh_coding cols rows in
-    let sound = fresh_sound cols rows in
+returns c cols rows numbers steps valid allowed =
+    let at = fresh_coding cols rows numbers in
+    let sound = fresh_sound cols rows numbers valid in
     let end = (after_all at steps).interval in
     read_all (final_bytes end) 0 at steps sound allowed (holds_final end (sound_after_all 0 at steps sound allowed).interval)

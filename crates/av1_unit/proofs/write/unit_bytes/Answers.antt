@@ -1,5 +1,10 @@
-use Rattle.std.proofs.Common.{◌≡◌, ℕ, List, [], ◌∷◌, sym, ◌∙◌, ap, length}
+use Rattle.std.proofs.Common.{◌≡◌, List, ℕ, [], ◌∷◌, sym, ◌∙◌, ap, length}
+use Rattle.av1_model.specs.Interval.{final_bytes}
 use Rattle.av1_unit.specs.Framing.{framed}
+use Rattle.av1_unit.specs.Headline.{ending}
+use Rattle.av1_unit.specs.Report.{ReportLists}
+use Rattle.av1_unit.specs.declared.report.TileReport.{TileReport}
+use Rattle.av1_unit.proofs.Contexts.{none_told}
 use Rattle.av1_unit.proofs.Written.{written}
 use Rattle.av1_unit.proofs.write.unit_bytes.Goals as goal
 
@@ -7,10 +12,16 @@ pub returns-clause-written : goal.returns-clause-written
 returns-clause-written c =
     let u = c.args.unit.now in
     let tile = c.in_ok-tile.tile in
-    let bits = c.in_ok-tile.bits in
-    let items : c.deref.result.now ≡ u.script = c.deref.ensures.value ∙ c.script.view_is in
-    let coded = rw (c.blocks_mi-cols.ensures.value, c.blocks_mi-rows.ensures.value, items) at c.in_ok-tile.ensures in
-    let long : c.len.result ≡ length tile.items = c.len.ensures ∙ tile.ok.0 in
-    let told = c.in_ok-report.ensures ∙ ap (λ n. record { tiles = record { bytes = n; bits = bits } ∷ []; trials = [] }) long in
-    written u c.in_ok-bytes.bytes.items tile.items bits c.in_ok-report.report (sym c.in_default.ensures) coded.allowed coded.bytes coded.bits
-    (c.in_ok-bytes.ensures ∙ ap (λ (l : List ℕ). framed u l) c.deref-2.ensures.value) told
+    let coded = c.in_ok-tile.ensures in
+    let told = c.in_ok-report.ensures ∙ ap (λ l. record { tiles = record { bytes = length tile.bytes.items; bits = tile.bits } ∷ []; trials = l }) coded.trials in
+    written u c.in_ok-bytes.bytes.items tile.bytes.items tile.bits c.in_ok-report.report (none_told _ (sym c.check_tables.ensures ∙ c.in_default.is)) (sym c.in_default-check_frame.ensures) coded.allowed coded.bytes coded.bits
+    (c.in_ok-bytes.ensures ∙ ap (λ (l : List ℕ). framed u l) c.deref.ensures.value) told
+
+pub returns-clause-tiles : goal.returns-clause-tiles
+returns-clause-tiles c =
+    let told : c.in_ok-report.report.tiles ≡ record { bytes = length c.in_ok-tile.tile.bytes.items; bits = c.in_ok-tile.tile.bits } ∷ [] = ap (λ (r : ReportLists). r.tiles) c.in_ok-report.ensures in
+    told ∙ ap (λ (n : ℕ). record { bytes = n; bits = c.in_ok-tile.tile.bits } ∷ []) (ap (λ (l : List ℕ). length l) c.in_ok-tile.ensures.bytes)
+    ∙ ap (λ (n : ℕ). record { bytes = length (final_bytes (ending c.args.unit.now)); bits = n } ∷ []) c.in_ok-tile.ensures.bits
+
+pub code_tile-requires-clause-tables : goal.code_tile-requires-clause-tables
+code_tile-requires-clause-tables c = none_told _ (sym c.check_tables.ensures ∙ c.in_default.is)

@@ -1,5 +1,9 @@
-use Rattle.av1_write.proofs.Fitting.{script_is_short}
+use Rattle.av1_write.specs.Run.{IsRefusal}
+use Rattle.av1_write.specs.Status.{of_unit_error}
+use Rattle.av1_write.proofs.Refusals.{is_refusal, status_has_cause}
 use Rattle.av1_write.proofs.run.encode.Goals as goal
 
-pub unit_bytes-requires : goal.unit_bytes-requires
-unit_bytes-requires c = record { script = script_is_short c.args.input.now (c.in_ok-unit.unit, c.in_ok-unit.via) c.in_ok-unit.ensures.fits }
+pub returns-in_err-bytes-clause-refused : goal.returns-in_err-bytes-clause-refused
+returns-in_err-bytes-clause-refused c =
+    let cause = is_refusal c.args.input.now c.in_ok-unit.unit c.in_ok-unit.via c.in_err-bytes.field-0.0 c.in_ok-unit.ensures.fits c.in_err-bytes.ensures.refused in
+    status_has_cause c.from_residual-in_err-bytes.result (of_unit_error c.in_err-bytes.field-0.0) (λ status. IsRefusal status c.args.input.now) c.from_residual-in_err-bytes.ensures.1 cause

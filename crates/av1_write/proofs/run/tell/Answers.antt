@@ -1,4 +1,4 @@
-use Rattle.std.proofs.Common.{◌≡◌, ◌∙◌, subst}
+use Rattle.std.proofs.Common.{◌∙◌}
 use Rattle.av1_write.proofs.Sending.{is_front}
 use Rattle.av1_write.proofs.run.tell.Goals as goal
 

@@ -1,4 +1,4 @@
-use Rattle.std.proofs.Common.{◌≡◌, ◌++◌, ◌∙◌, append_assoc}
+use Rattle.std.proofs.Common.{◌∙◌, append_assoc}
 use Rattle.av1_write.specs.Status.{place_text}
 use Rattle.av1_write.proofs.status.place_text.Goals as goal
 

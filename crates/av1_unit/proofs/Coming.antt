@@ -1,0 +1,104 @@
+-- How far the loop over a script has come.
+use Rattle.std.proofs.Common.{◌≡◌, ℕ, ◌+◌, ◌<◌, ◌≤◌, Bool, true, false, List, [], ◌∷◌, ◌++◌, Some, None, length, take, drop, get_or, refl, sym, ◌∙◌, ap, subst, arith, if◌then◌else◌}
+use Rattle.std.proofs.lemmas.List.{take_more, drop_more, drop_all, length-append}
+use Rattle.std.proofs.Math.ListN.{length-take}
+use Rattle.av1_model.specs.Eighths.{eighths}
+use Rattle.av1_model.specs.Position.{Position}
+use Rattle.av1_ec.specs.declared.storage.WriterCheckpoint.{WriterCheckpoint}
+use Rattle.av1_unit.specs.declared.coding.TrialMark.{TrialMark}
+use Rattle.av1_unit.specs.declared.error.UnitError.{UnitError}
+use Rattle.av1_unit.specs.declared.error.UnitError.TheVariants.{BadScript}
+use Rattle.av1_unit.specs.declared.report.TrialCost.{TrialCost}
+use Rattle.av1_unit.specs.declared.tile.TileState.{TileState}
+use Rattle.av1_unit.specs.declared.unit.Item.{Item}
+use Rattle.av1_unit.specs.Trials.{Trial, Progress, moved, moved_all, first_wrong, no_trial}
+use Rattle.av1_unit.proofs.Surviving.{nothing_wrong}
+use Rattle.av1_unit.specs.Coder.{all_costs, AreMarks, StandsAt}
+
+moved_all-last : (n : ℕ) (p : Progress) (xs : List Item) (item : Item) → moved_all n p (xs ++ item ∷ []) ≡ moved (n + length xs) (moved_all n p xs) item
+moved_all-last n p [] item = ap (λ k. moved k p item) (omega arith)
+moved_all-last n p (x ∷ xs) item = moved_all-last (n + 1) (moved n p x) xs item ∙ ap (λ k. moved k (moved_all (n + 1) (moved n p x) xs) item) (omega arith)
+
+-- after one item more
+moved_more : (p : Progress) (items : List Item) (i : ℕ) (item : Item) → i < length items → get_or items i item ≡ item → moved_all 0 p (take (i + 1) items) ≡ moved i (moved_all 0 p (take i items)) item
+moved_more p items i item h e =
+    ap (λ (l : List Item). moved_all 0 p l) (take_more items i item h ∙ ap (λ x. take i items ++ x ∷ []) e)
+    ∙ moved_all-last 0 p (take i items) item
+    ∙ ap (λ k. moved k (moved_all 0 p (take i items)) item) (omega (arith, h, length-take i items))
+
+module _ {W : Type 0} (start : Position) (IsReached : W → WriterCheckpoint → Type 0) (position_at : W → WriterCheckpoint → Position) where
+  -- i items are taken: a tile on its way stands there, and what is wrong with all is wrong with those that are left
+  pub record HasCome (begin : Progress) (items : List Item) (i : ℕ) (tile : TileState) (w : W) (position : Position) (stored : ℕ) (marks : List TrialMark) (costs : List TrialCost) : Type 0 where
+    pub stands : StandsAt start IsReached position_at i tile w position stored marks costs (moved_all 0 begin (take i items))
+    pub wrong : first_wrong 0 begin items ≡ first_wrong i (moved_all 0 begin (take i items)) (drop i items)
+
+  pub come_more : (begin : Progress) (items : List Item) (i : ℕ) (item : Item) (tile : TileState) (w : W) (position : Position) (stored : ℕ) (marks : List TrialMark) (costs : List TrialCost)
+      → i < length items → get_or items i item ≡ item
+      → first_wrong 0 begin items ≡ first_wrong i (moved_all 0 begin (take i items)) (drop i items)
+      → StandsAt start IsReached position_at (i + 1) tile w position stored marks costs (moved i (moved_all 0 begin (take i items)) item)
+      → ((rest : List Item) → first_wrong i (moved_all 0 begin (take i items)) (item ∷ rest) ≡ first_wrong (i + 1) (moved i (moved_all 0 begin (take i items)) item) rest)
+      → HasCome begin items (i + 1) tile w position stored marks costs
+  come_more begin items i item tile w position stored marks costs h e wrong stands right =
+      let more = moved_more begin items i item h e in
+      record {
+        stands = subst (λ (p : Progress). StandsAt start IsReached position_at (i + 1) tile w position stored marks costs p) (sym more) stands;
+        wrong = wrong ∙ ap (λ (l : List Item). first_wrong i (moved_all 0 begin (take i items)) l) (drop_more items i item h ∙ ap (λ x. x ∷ drop (i + 1) items) e)
+            ∙ right (drop (i + 1) items) ∙ ap (λ (p : Progress). first_wrong (i + 1) p (drop (i + 1) items)) (sym more);
+      }
+
+-- what is wrong with the item that comes is wrong with all
+pub wrong_here : (begin : Progress) (items : List Item) (i : ℕ) (item : Item) (e : UnitError) → i < length items → get_or items i item ≡ item
+    → first_wrong 0 begin items ≡ first_wrong i (moved_all 0 begin (take i items)) (drop i items)
+    → ((rest : List Item) → first_wrong i (moved_all 0 begin (take i items)) (item ∷ rest) ≡ Some e) → first_wrong 0 begin items ≡ Some e
+wrong_here begin items i item e h is wrong here =
+    wrong ∙ ap (λ (l : List Item). first_wrong i (moved_all 0 begin (take i items)) l) (drop_more items i item h ∙ ap (λ x. x ∷ drop (i + 1) items) is) ∙ here (drop (i + 1) items)
+
+module _ {W : Type 0} (start : Position) (IsReached : W → WriterCheckpoint → Type 0) (position_at : W → WriterCheckpoint → Position) where
+  no_marks : (w : W) (bound most : ℕ) (marks : List TrialMark) (trials : List Trial) (costs : List TrialCost) → AreMarks start IsReached position_at w bound most marks trials costs → length marks ≡ 0 → no_trial trials ≡ true
+  no_marks w bound most marks [] costs a e = refl
+  no_marks w bound most marks (t ∷ ts) costs (outer, m, is, mark, more) e =
+      absurd (omega (arith, e, ap (λ (l : List TrialMark). length l) is ∙ length-append outer (m ∷ [])))
+
+  some_marks : (w : W) (bound most : ℕ) (marks : List TrialMark) (trials : List Trial) (costs : List TrialCost) → AreMarks start IsReached position_at w bound most marks trials costs → 0 < length marks → no_trial trials ≡ false
+  some_marks w bound most marks [] costs a h = absurd (omega (arith, h, ap (λ (l : List TrialMark). length l) a))
+  some_marks w bound most marks (t ∷ ts) costs a h = refl
+
+  at_last : (begin : Progress) (items : List Item) (i : ℕ) (tile : TileState) (w : W) (position : Position) (stored : ℕ) (marks : List TrialMark) (costs : List TrialCost)
+      → HasCome start IsReached position_at begin items i tile w position stored marks costs → length items ≤ i
+      → first_wrong 0 begin items ≡ (if no_trial (moved_all 0 begin (take i items)).trials then None else Some (BadScript 0 i))
+  at_last begin items i tile w position stored marks costs come h =
+      come.wrong ∙ ap (λ (l : List Item). first_wrong i (moved_all 0 begin (take i items)) l) (drop_all i items h)
+
+  -- where all items are taken and no trial is left, nothing is wrong
+  pub ended_right : (begin : Progress) (items : List Item) (i : ℕ) (tile : TileState) (w : W) (position : Position) (stored : ℕ) (marks : List TrialMark) (costs : List TrialCost)
+      → HasCome start IsReached position_at begin items i tile w position stored marks costs → length items ≤ i → length marks ≡ 0 → first_wrong 0 begin items ≡ None
+  ended_right begin items i tile w position stored marks costs come h e =
+      let p = moved_all 0 begin (take i items) in
+      at_last begin items i tile w position stored marks costs come h
+      ∙ ap (λ b. if b then None else Some (BadScript 0 i)) (no_marks w stored (eighths p.at.interval) marks p.trials p.costs come.stands.marks_are e)
+
+  -- where one is left, the script has not ended it
+  pub ended_wrong : (begin : Progress) (items : List Item) (i : ℕ) (tile : TileState) (w : W) (position : Position) (stored : ℕ) (marks : List TrialMark) (costs : List TrialCost)
+      → HasCome start IsReached position_at begin items i tile w position stored marks costs → length items ≡ i → 0 < length marks → first_wrong 0 begin items ≡ Some (BadScript 0 (length items))
+  ended_wrong begin items i tile w position stored marks costs come h e =
+      let p = moved_all 0 begin (take i items) in
+      at_last begin items i tile w position stored marks costs come (omega (arith, h))
+      ∙ ap (λ b. if b then None else Some (BadScript 0 i)) (some_marks w stored (eighths p.at.interval) marks p.trials p.costs come.stands.marks_are e)
+      ∙ ap (λ k. Some (BadScript 0 k)) (sym h)
+
+none_or : (b : Bool) (e : UnitError) → (if b then None else Some e) ≡ None → b ≡ true
+none_or true e h = refl
+none_or false e h = cc
+
+-- where nothing is wrong, each trial ends
+ends_all : (n : ℕ) (p : Progress) (items : List Item) → first_wrong n p items ≡ None → no_trial (moved_all n p items).trials ≡ true
+ends_all n p [] h = none_or (no_trial p.trials) (BadScript 0 n) h
+ends_all n p (item ∷ items) h = ends_all (n + 1) (moved n p item) items (nothing_wrong n p item items h).2
+
+only_costs : (trials : List Trial) (costs : List TrialCost) → no_trial trials ≡ true → all_costs trials costs ≡ costs
+only_costs [] costs h = refl
+only_costs (t ∷ ts) costs h = cc
+
+-- and then all costs are the script's
+pub costs_all : (p : Progress) (items : List Item) → first_wrong 0 p items ≡ None → let q = moved_all 0 p items in all_costs q.trials q.costs ≡ q.costs
+costs_all p items h = let q = moved_all 0 p items in only_costs q.trials q.costs (ends_all 0 p items h)
