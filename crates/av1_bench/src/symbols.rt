@@ -40,15 +40,27 @@ pub(crate) fn fnv(bytes: &[u8]) -> u32 {
     h
 }
 
+// What a number at a place adds to a sum: itself times its place, from 1 on, modulo 65536.
+fn weighted(place: usize, number: u16) -> u16 {
+    ((place % 65536) as u16)
+        .wrapping_add(1)
+        .wrapping_mul(number)
+}
+
 /// The sum of each byte times its place, from 1 on, modulo 65536.
 pub(crate) fn sum(bytes: &[u8]) -> u16 {
     let mut sum = 0u16;
     for (i, b) in bytes.iter().enumerate() {
-        sum = sum.wrapping_add(
-            ((i % 65536) as u16)
-                .wrapping_add(1)
-                .wrapping_mul(u16::from(*b)),
-        );
+        sum = sum.wrapping_add(weighted(i, u16::from(*b)));
+    }
+    sum
+}
+
+/// The same of numbers of which the first stands at this place.
+pub(crate) fn sum_from(place: usize, numbers: &[u16]) -> u16 {
+    let mut sum = 0u16;
+    for (i, number) in numbers.iter().enumerate() {
+        sum = sum.wrapping_add(weighted(place.wrapping_add(i), *number));
     }
     sum
 }
