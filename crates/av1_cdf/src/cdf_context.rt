@@ -1,12 +1,14 @@
 // The numbers of a context.
-ghost use Rattle.std.specs.Prelude.{◌≡◌, ◌+◌, None, length, IfOk};
+ghost use Rattle.std.specs.Prelude.{◌≡◌, ℕ, ◌+◌, ◌<◌, ◌≤◌, None, List, length, IfOk};
 ghost use Rattle.std.specs.Borrow.{Lends, sem, u16 as number, Array};
 ghost use Rattle.av1_cdf.specs.Context.{contents, with_contents, uniform_numbers, with_counts_reset};
 ghost use Rattle.av1_cdf.specs.contracts.cdf_context.CDFContext.{the_row};
+ghost use Rattle.av1_cdf.specs.Log.{spare, KeepsUndone};
 ghost use Rattle.av1_cdf.specs.Slots.{slot_of};
 ghost use Rattle.av1_cdf.specs.Tables.{first_broken, table_rules, set_at, set_number};
 
 use crate::cdf_offset::CDFOffset;
+use crate::log::CDFContextLog;
 use crate::numbers::NumberArray;
 use crate::run::{Cell, cell_with, run_with};
 use crate::tables::Tables;
@@ -66,6 +68,22 @@ impl CDFContext {
         ensures len { length result.now ≡ cdf.len }
     {
         self.numbers.part_mut(cdf.place, cdf.place + cdf.len)
+    }
+
+    /// Saves the numbers of a CDF in the log, which has room for it (`CDFContextLog::ready`), and hands them out to be changed.
+    /// Whatever is left there, each checkpoint that the log reaches stands for the context that it stood for. It is `push`
+    /// of rav1e's log.
+    #[inline(always)]
+    pub fn push(&mut self, log: &mut CDFContextLog, cdf: CDFOffset) -> &mut [u16]
+        requires room { 0 < spare log.old }
+        ensures* writes_back { sem 𝓛 (Lends the_row (Array number 0) self.entry result (with_contents self.old (slot_of cdf))) }
+        ensures value { result.now ≡ contents self.old (slot_of cdf) }
+        ensures len { length result.now ≡ cdf.len }
+        ensures saved { (ws : List ℕ) → KeepsUndone log.old log.new self.old (with_contents self.old (slot_of cdf) ws) }
+        ensures spare { spare log.old ≤ spare log.new + 1 }
+    {
+        log.save(self, cdf);
+        self.values_mut(cdf)
     }
 
     /// The context that a tile of this quantizer (`base_q_idx`) starts with: set 0 up to 20, 1 up to 60, 2 up to 120,

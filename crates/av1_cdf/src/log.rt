@@ -63,25 +63,38 @@ impl CDFContextLog {
         }
     }
 
-    /// Saves the numbers of a CDF before they change: whatever is then left there, each checkpoint that the log reaches
-    /// stands for the context that it stood for. A refusal leaves the log as it was.
+    // Saves the numbers of a CDF before they change: whatever is then left there, each checkpoint that the log reaches
+    // stands for the context that it stood for.
     #[inline(always)]
-    pub fn save(&mut self, fc: &CDFContext, cdf: CDFOffset) -> Result<(), OutOfMemory>
-        ensures ok { OnOk result ((ws : List ℕ) → KeepsUndone self.old self.new fc.now (with_contents fc.now (slot_of cdf) ws)) }
-        ensures err { OnErr result (saves_of self.new ≡ saves_of self.old) }
-        ensures room { 0 < spare self.old → IsOk result }
+    pub(crate) fn save(&mut self, fc: &CDFContext, cdf: CDFOffset)
+        requires room { 0 < spare self.old }
+        ensures saved { (ws : List ℕ) → KeepsUndone self.old self.new fc.now (with_contents fc.now (slot_of cdf) ws) }
         ensures spare { spare self.old ≤ spare self.new + 1 }
     {
-        self.saves.push(Save::new(fc, cdf))?;
-        Ok(())
+        let _ = self.saves.push(Save::new(fc, cdf));
     }
 
-    /// Makes room for this many saves, so that as many cannot fail. The saves stay, also on a refusal.
-    #[inline]
+    /// Makes room for this many saves, so that as many calls of `CDFContext::push` may follow. The saves stay, also on a
+    /// refusal.
+    #[inline(always)]
     pub fn ready(&mut self, pushes: usize) -> Result<(), OutOfMemory>
         ensures same { saves_of self.new ≡ saves_of self.old }
         ensures ready { OnOk result (pushes ≤ spare self.new) }
         ensures room { pushes ≤ spare self.old → IsOk result }
+        ensures spare { spare self.old ≤ spare self.new }
+    {
+        if self.saves.capacity() - self.saves.len() < pushes {
+            return self.grow(pushes);
+        }
+        Ok(())
+    }
+
+    // Rare, so that it stays out of the way of what is often.
+    #[cold]
+    #[inline(never)]
+    fn grow(&mut self, pushes: usize) -> Result<(), OutOfMemory>
+        ensures same { saves_of self.new ≡ saves_of self.old }
+        ensures ready { OnOk result (pushes ≤ spare self.new) }
         ensures spare { spare self.old ≤ spare self.new }
     {
         self.saves.reserve(pushes)?;

@@ -122,8 +122,8 @@ fn overwrite(
 ) -> Result<(), OutOfMemory>
     ensures { OnOk result (KeepsUndone log.old log.new context.old context.new) }
 {
-    log.save(context, cdf)?;
-    context.values_mut(cdf).fill(number);
+    log.ready(1)?;
+    context.push(log, cdf).fill(number);
     Ok(())
 }
 

@@ -42,7 +42,6 @@ pub(crate) fn store_and_adapt<W: StorageBackend>(
     log.ready(1)?;
     let (fl, fh, nms) = token(s as usize, fc.values_of(cdf));
     w.store(fl, fh, nms)?;
-    log.save(fc, cdf)?;
-    update_cdf(fc.values_mut(cdf), s);
+    update_cdf(fc.push(log, cdf), s);
     Ok(())
 }
