@@ -70,6 +70,10 @@ undo_one ss s context =
       | inr o ↦ elsewhere s k (get_or context k 0) o ∙ sym (written_stays context from to back k h o)
     ]))
 
+-- how many saves a log has
+pub stored_len : (log : CDFContextLog) → stored log ≡ log.len
+stored_len log = omega (arith, length-take log.len log.saves.items, log.within)
+
 pub undo_step : (saves : List Save) (context : List ℕ) (left : ℕ) (s : Save) → left < length saves → get_or saves left s ≡ s → (m : ℕ) → m ≤ left →
     undone_by (drop m (take (left + 1) saves)) context ≡ undone_by (drop m (take left saves)) (restored s context)
 undo_step saves context left s l e m h =

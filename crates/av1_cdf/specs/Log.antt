@@ -1,5 +1,5 @@
 -- What a log undoes.
-use Rattle.std.specs.Prelude.{◌≡◌, ℕ, ◌+◌, ◌-◌, ◌<◌, ◌≤◌, List, [], ◌∷◌, Bool, ◌&&◌, nat_le, nat_lt, if◌then◌else◌, Option, Some, None, unwrap_or, length, slice_index, take, drop, map, vec_len, vec_capacity}
+use Rattle.std.specs.Prelude.{◌≡◌, ℕ, ◌+◌, ◌-◌, ◌<◌, ◌≤◌, List, [], ◌∷◌, Bool, ◌&&◌, nat_le, nat_lt, if◌then◌else◌, Option, Some, None, unwrap_or, length, slice_index, take, drop, map}
 use Rattle.std.specs.List.{range_with_len}
 use Rattle.av1_cdf.specs.Context.{with_contents}
 use Rattle.av1_cdf.specs.Slots.{slot_of}
@@ -23,7 +23,7 @@ undone_by saves context = map (λ k. unwrap_or (saved_at saves k) (slice_index c
 
 -- the saves of a log, the oldest first
 abbrev pub saves_of : CDFContextLog → List Save
-saves_of log = log.saves.items
+saves_of log = take log.len log.saves.items
 
 -- how many saves a log has
 abbrev pub stored : CDFContextLog → ℕ
@@ -31,7 +31,7 @@ stored log = length (saves_of log)
 
 -- how many saves fit before more memory is needed
 abbrev pub spare : CDFContextLog → ℕ
-spare log = vec_capacity log.saves - vec_len log.saves
+spare log = length log.saves.items - log.len
 
 -- how many saves there were at a checkpoint
 abbrev pub reach : CDFContextCheckpoint → ℕ

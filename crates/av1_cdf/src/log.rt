@@ -1,9 +1,5 @@
 // What to put back into a context, to undo what was done to it.
-ghost use Rattle.std.specs.Prelude.{◌≡◌, ℕ, List, ◌+◌, ◌≤◌, ◌<◌, IsOk, OnOk, OnErr};
-ghost use Rattle.av1_cdf.specs.Context.{contents, with_contents};
-ghost use Rattle.av1_cdf.specs.Slots.{slot_of};
-ghost use Rattle.av1_cdf.specs.Log.{saves_of, stored, spare, reach, IsReached, undone, KeepsUndone, IsSaveOf, restored};
-ghost use Rattle.av1_cdf.specs.declared.log.CDFContextCheckpoint.{CDFContextCheckpoint};
+ghost use Rattle.std.specs.Prelude.{◌≡◌, ℕ, List, ◌+◌, ◌≤◌, ◌<◌, IsOk, OnOk, OnErr, length};
 
 use crate::cdf_context::{CDF_LEN_MAX, CDFContext};
 use crate::cdf_offset::CDFOffset;
@@ -19,14 +15,24 @@ pub(crate) struct Save {
 }
 
 impl Save {
+    ghost use Rattle.av1_cdf.specs.Log.{IsSaveOf, restored};
+
+    // What stands where no CDF was saved yet.
+    fn blank() -> Save {
+        Save {
+            cdf: CDFContext::skip_cdfs(0),
+            numbers: [0; CDF_LEN_MAX],
+        }
+    }
+
+    // Keeps the numbers of a CDF.
     #[tactic(auto, using(crate::proofs::Undoing::slot_fits))]
     #[inline(always)]
-    fn new(fc: &CDFContext, cdf: CDFOffset) -> Save
-        ensures { IsSaveOf fc.now cdf result }
+    fn keep(&mut self, fc: &CDFContext, cdf: CDFOffset)
+        ensures { IsSaveOf fc.now cdf self.new }
     {
-        let mut numbers = [0; CDF_LEN_MAX];
-        numbers[..cdf.len].copy_from_slice(fc.values_of(cdf));
-        Save { cdf, numbers }
+        self.cdf = cdf;
+        self.numbers[..cdf.len].copy_from_slice(fc.values_of(cdf));
     }
 
     // Puts the numbers back.
@@ -43,7 +49,11 @@ impl Save {
 /// The saves of a context, the oldest first.
 #[derive(Drop)]
 pub struct CDFContextLog {
+    // The saves, and then room for more: a save is written where it will stand.
     saves: Vec<Save>,
+    // How many saves there are.
+    len: usize,
+    ghost within: { len ≤ length saves.items },
 }
 
 /// A moment of a log, to which `rollback` goes back.
@@ -54,12 +64,18 @@ pub struct CDFContextCheckpoint {
 }
 
 impl CDFContextLog {
+    ghost use Rattle.av1_cdf.specs.Context.{with_contents};
+    ghost use Rattle.av1_cdf.specs.Slots.{slot_of};
+    ghost use Rattle.av1_cdf.specs.Log.{saves_of, stored, spare, reach, IsReached, undone, KeepsUndone};
+    ghost use Rattle.av1_cdf.specs.declared.log.CDFContextCheckpoint.{CDFContextCheckpoint};
+
     /// A log with no saves.
     pub fn new(alloc: Global) -> CDFContextLog
         ensures { stored result ≡ 0 }
     {
         CDFContextLog {
             saves: Vec::new(alloc),
+            len: 0,
         }
     }
 
@@ -71,7 +87,8 @@ impl CDFContextLog {
         ensures saved { (ws : List ℕ) → KeepsUndone self.old self.new fc.now (with_contents fc.now (slot_of cdf) ws) }
         ensures spare { spare self.old ≤ spare self.new + 1 }
     {
-        let _ = self.saves.push(Save::new(fc, cdf));
+        self.saves[self.len].keep(fc, cdf);
+        self.len += 1;
     }
 
     /// Makes room for this many saves, so that as many calls of `CDFContext::push` may follow. The saves stay, also on a
@@ -83,13 +100,13 @@ impl CDFContextLog {
         ensures room { pushes ≤ spare self.old → IsOk result }
         ensures spare { spare self.old ≤ spare self.new }
     {
-        if self.saves.capacity() - self.saves.len() < pushes {
+        if self.saves.len() - self.len < pushes {
             return self.grow(pushes);
         }
         Ok(())
     }
 
-    // Rare, so that it stays out of the way of what is often.
+    // Twice the room at least. Rare, so that it stays out of the way of what is often.
     #[cold]
     #[inline(never)]
     fn grow(&mut self, pushes: usize) -> Result<(), OutOfMemory>
@@ -97,7 +114,9 @@ impl CDFContextLog {
         ensures ready { OnOk result (pushes ≤ spare self.new) }
         ensures spare { spare self.old ≤ spare self.new }
     {
-        self.saves.reserve(pushes)?;
+        let room = self.saves.len();
+        let more = room.checked_add(room.max(pushes)).ok_or(OutOfMemory)?;
+        self.saves.resize(more, Save::blank())?;
         Ok(())
     }
 
@@ -108,9 +127,7 @@ impl CDFContextLog {
         ensures reach { reach result ≡ stored self.now }
         ensures undone { (context : List ℕ) → undone self.now context result ≡ context }
     {
-        CDFContextCheckpoint {
-            saves: self.saves.len(),
-        }
+        CDFContextCheckpoint { saves: self.len }
     }
 
     /// Makes the context what the checkpoint stands for, and forgets the saves past it. Each checkpoint that reaches no
@@ -123,13 +140,10 @@ impl CDFContextLog {
         ensures kept { (c : CDFContextCheckpoint) → reach c ≤ reach checkpoint.now → undone self.new fc.new c ≡ undone self.old fc.old c }
         ensures spare { spare self.old ≤ spare self.new }
     {
-        let mut left = self.saves.len();
-        while left > checkpoint.saves {
-            left -= 1;
-            let save = self.saves[left];
-            save.restore(fc);
+        while self.len > checkpoint.saves {
+            self.len -= 1;
+            self.saves[self.len].restore(fc);
         }
-        self.saves.truncate(checkpoint.saves);
     }
 
     /// Forgets all saves.
@@ -137,6 +151,6 @@ impl CDFContextLog {
         ensures stored { stored self.new ≡ 0 }
         ensures spare { spare self.old ≤ spare self.new }
     {
-        self.saves.clear();
+        self.len = 0;
     }
 }

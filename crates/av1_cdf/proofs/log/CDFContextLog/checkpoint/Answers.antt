@@ -1,8 +1,9 @@
 use Rattle.std.proofs.Common.{arith}
-use Rattle.av1_cdf.proofs.Undoing.{undone_all}
+use Rattle.av1_cdf.specs.Log.{saves_of}
+use Rattle.av1_cdf.proofs.Undoing.{stored_len, undone_all}
 use Rattle.av1_cdf.proofs.log.CDFContextLog.checkpoint.Goals as goal
 
 pub returns-clause-undone : goal.returns-clause-undone
 returns-clause-undone c context =
-    let v = c.args.self.now.saves in
-    undone_all v.items context c.len.result (omega (arith, v.ok.0, c.len.ensures))
+    let log = c.args.self.now in
+    undone_all (saves_of log) context log.len (omega (arith, stored_len log))

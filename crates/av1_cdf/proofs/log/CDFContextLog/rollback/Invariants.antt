@@ -1,13 +1,14 @@
-use Rattle.std.proofs.Common.{◌≡◌, ◌≤◌, ◌-◌, ℕ, length, take, drop}
-use Rattle.av1_cdf.specs.Log.{undone_by}
+use Rattle.std.proofs.Common.{◌≡◌, ◌≤◌, ◌-◌, ℕ, drop}
+use Rattle.av1_cdf.specs.Log.{saves_of, undone_by}
 use Rattle.av1_cdf.proofs.log.CDFContextLog.rollback.Given as goal
 
-abbrev pub invariant-loop-left : goal.invariant-loop-left
-invariant-loop-left l = record {
-  least : l.checkpoint.saves ≤ l.left;
-  most : l.left ≤ length l.self.saves.items;
-  same : (m : ℕ) → m ≤ l.checkpoint.saves → undone_by (drop m (take l.left l.self.saves.items)) l.fc ≡ undone_by (drop m l.self.saves.items) l.initial.fc;
+abbrev pub invariant-loop-self : goal.invariant-loop-self
+invariant-loop-self l = record {
+  least : l.checkpoint.saves ≤ l.self.len;
+  most : l.self.len ≤ l.initial.self.len;
+  saves : l.self.saves ≡ l.initial.self.saves;
+  same : (m : ℕ) → m ≤ l.checkpoint.saves → undone_by (drop m (saves_of l.self)) l.fc ≡ undone_by (drop m (saves_of l.initial.self)) l.initial.fc;
 }
 
-abbrev pub decreases-loop-left : goal.decreases-loop-left
-decreases-loop-left l = l.left - l.checkpoint.saves
+abbrev pub decreases-loop-self : goal.decreases-loop-self
+decreases-loop-self l = l.self.len - l.checkpoint.saves
