@@ -15,11 +15,13 @@ pub fn update_cdf(cdf: &mut [u16], val: u32)
     let last = cdf.len() - 1;
     let count = cdf[last];
     let rate = 3 + (cdf.len() >> 1).min(2) + (count >> 4) as usize;
-    for i in 0..val as usize {
-        cdf[i] += (32768 - cdf[i]) >> rate;
-    }
-    for i in val as usize..last {
-        cdf[i] -= cdf[i] >> rate;
+    for i in 0..last {
+        let x = cdf[i];
+        cdf[i] = if (i as u32) < val {
+            x + ((32768 - x) >> rate)
+        } else {
+            x - (x >> rate)
+        };
     }
     cdf[last] = count + 1 - (count >> 5);
 }

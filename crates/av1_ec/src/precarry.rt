@@ -9,6 +9,32 @@ ghost use Rattle.av1_ec.specs.Encoder.{HasRoom};
 use av1_geometry::OutOfMemory;
 use std::alloc::Global;
 
+// Makes room for two entries.
+#[inline(always)]
+fn reserve_two(precarry: &mut Vec<u16>) -> Result<(), OutOfMemory>
+    ensures same { precarry.new.items ≡ precarry.old.items }
+    ensures ok { OnOk result (vec_len precarry.new + 2 ≤ vec_capacity precarry.new) }
+    ensures room { vec_len precarry.old + 2 ≤ vec_capacity precarry.old → IsOk result }
+    ensures capacity { vec_capacity precarry.old ≤ vec_capacity precarry.new }
+{
+    if precarry.capacity() - precarry.len() < 2 {
+        return grow(precarry);
+    }
+    Ok(())
+}
+
+// Rare, so that it stays out of the way of what is often.
+#[cold]
+#[inline(never)]
+fn grow(precarry: &mut Vec<u16>) -> Result<(), OutOfMemory>
+    ensures same { precarry.new.items ≡ precarry.old.items }
+    ensures ok { OnOk result (vec_len precarry.new + 2 ≤ vec_capacity precarry.new) }
+    ensures capacity { vec_capacity precarry.old ≤ vec_capacity precarry.new }
+{
+    precarry.reserve(2)?;
+    Ok(())
+}
+
 // Lets entries leave the window until it has room for `d` more bits: what is left of the low end, and its new weight.
 #[inline(always)]
 pub(crate) fn make_room(
@@ -32,12 +58,11 @@ pub(crate) fn make_room(
     if *weight + d < 24 {
         return Ok(());
     }
-    precarry.reserve(2)?;
-    if *weight + d < 32 {
-        leave(precarry, low, weight);
+    reserve_two(precarry)?;
+    leave(precarry, low, weight);
+    if *weight + d < 24 {
         return Ok(());
     }
-    leave(precarry, low, weight);
     leave(precarry, low, weight);
     Ok(())
 }

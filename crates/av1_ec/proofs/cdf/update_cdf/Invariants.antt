@@ -8,9 +8,3 @@ invariant-loop-i l = record {
   written : (k : ℕ) → k < l.i → slice_index l.cdf k ≡ adapted l.fn.cdf l.fn.val k;
   kept : (k : ℕ) → l.i ≤ k → slice_index l.cdf k ≡ slice_index l.fn.cdf k;
 }
-
-abbrev pub invariant-loop-i-2 : goal.invariant-loop-i-2
-invariant-loop-i-2 l = record {
-  written : (k : ℕ) → k < l.i → slice_index l.cdf k ≡ adapted l.fn.cdf l.fn.val k;
-  kept : (k : ℕ) → l.i ≤ k → slice_index l.cdf k ≡ slice_index l.fn.cdf k;
-}
