@@ -1,6 +1,6 @@
 // A context that learns from the symbols that are coded by it.
 ghost use Rattle.std.specs.Prelude.{◌≡◌, ◌+◌, ◌^◌, ◌<◌, ◌≤◌};
-ghost use Rattle.av1_bench.specs.Cdfs.{AreCdfs};
+ghost use Rattle.av1_cdf.specs.Context.{AreCdfs};
 ghost use Rattle.av1_cdf.specs.Log.{IsReached, undone};
 
 use av1_cdf::{CDFContext, CDFContextCheckpoint, CDFContextLog, CDFOffset};

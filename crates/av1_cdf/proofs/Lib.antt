@@ -1,4 +1,5 @@
 pub mod Cells
+pub mod Learning
 pub mod Names
 pub mod NumbersMemory
 pub mod Parts

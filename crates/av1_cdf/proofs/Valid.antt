@@ -120,7 +120,7 @@ uniform_at : (k : ℕ) → k < 5528 → get_or uniform_numbers k 0 ≡ uniform_n
 unfolding uniform_numbers
 uniform_at k h = get_or-map-range_with_len uniform_number 0 5528 k k 0 h (zero-add k)
 
-uniform_whole : length uniform_numbers ≡ 5528
+pub uniform_whole : length uniform_numbers ≡ 5528
 unfolding uniform_numbers
 uniform_whole = length-map-range_with_len uniform_number 0 5528
 

@@ -1,7 +1,8 @@
 -- The numbers of a context by their CDFs.
-use Rattle.std.specs.Prelude.{ℕ, ◌+◌, ◌-◌, ◌*◌, ◌/◌, List, Bool, ◌&&◌, nat_eq, nat_le, nat_lt, if◌then◌else◌, length, slice_index, map}
+use Rattle.std.specs.Prelude.{◌≡◌, ℕ, ◌+◌, ◌-◌, ◌*◌, ◌/◌, List, Bool, ◌&&◌, IsTrue, nat_eq, nat_le, nat_lt, if◌then◌else◌, length, slice_index, map}
 use Rattle.std.specs.List.{range_with_len, slice_range}
-use Rattle.av1_cdf.specs.Layout.{Slot, cell, size_of_context}
+use Rattle.av1_cdf.specs.Layout.{Slot, cell, is_slot, size_of_context}
+use Rattle.av1_model.specs.Cdf.{IsCdf}
 
 -- the numbers of a CDF
 abbrev pub contents : List ℕ → Slot → List ℕ
@@ -34,3 +35,8 @@ written_between numbers from to ws = map (λ k. if nat_le from k && nat_lt k to 
 -- a context with these numbers in a CDF
 abbrev pub with_contents : List ℕ → Slot → List ℕ → List ℕ
 with_contents numbers s ws = written_between numbers s.place (s.place + s.len) ws
+
+-- these are the numbers of a context, and each of its distributions is valid
+pub record AreCdfs (numbers : List ℕ) : Type 0 where
+  pub size : length numbers ≡ size_of_context
+  pub valid : (s : Slot) → IsTrue (is_slot s.place s.len) → IsCdf (contents numbers s)

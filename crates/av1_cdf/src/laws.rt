@@ -1,8 +1,8 @@
-// What holds of the layout, and of the contexts that a tile starts with.
+// What holds of the layout, of the contexts that a tile starts with, and of one whose CDFs learn or are written.
 ghost use Rattle.std.specs.Prelude.{◌≡◌, ℕ, ◌+◌, ◌≤◌, ◌<◌, ◌⊎◌, List, None, IsTrue, length, slice_index};
-ghost use Rattle.av1_model.specs.Cdf.{IsCdf};
+ghost use Rattle.av1_model.specs.Cdf.{adapt};
 ghost use Rattle.av1_cdf.specs.Layout.{Slot, layout, rises, named, length_in, slot, is_slot, cell};
-ghost use Rattle.av1_cdf.specs.Context.{contents, with_contents, uniform_numbers};
+ghost use Rattle.av1_cdf.specs.Context.{AreCdfs, contents, with_contents, uniform_numbers};
 ghost use Rattle.av1_cdf.specs.Tables.{first_broken, table_rules, set_at, set_number};
 
 /// The fields follow on one another without a gap up to the end of the context. Each CDF lies within the context, each of
@@ -16,11 +16,18 @@ pub fn law_of_layout()
         (s ≡ t) ⊎ ((s.place + s.len ≤ t.place) ⊎ (t.place + t.len ≤ s.place)) }
 {}
 
-/// In tables that break no rule each CDF of each set is valid, and so is each CDF of the uniform context.
+/// The set that a quantizer chooses, of tables that break no rule, is a context whose CDFs are all valid, and so is the
+/// uniform context.
 pub fn law_of_starting()
-    ensures tables { (sets : List (List ℕ)) (quantizer : ℕ) (s : Slot) → first_broken (table_rules sets) ≡ None →
-        IsTrue (is_slot s.place s.len) → IsCdf (contents (set_at sets (set_number quantizer)) s) }
-    ensures uniform { (s : Slot) → IsTrue (is_slot s.place s.len) → IsCdf (contents uniform_numbers s) }
+    ensures tables { (sets : List (List ℕ)) (quantizer : ℕ) → first_broken (table_rules sets) ≡ None →
+        AreCdfs (set_at sets (set_number quantizer)) }
+    ensures uniform { AreCdfs uniform_numbers }
+{}
+
+/// A context whose CDFs are all valid, one of which is adapted by a symbol, is one still.
+pub fn law_of_learning()
+    ensures { (numbers : List ℕ) (s : Slot) (symbol : ℕ) → AreCdfs numbers → IsTrue (is_slot s.place s.len) →
+        AreCdfs (with_contents numbers s (adapt (contents numbers s) symbol)) }
 {}
 
 /// A CDF of a context that is written has the numbers written, and each other one stays.

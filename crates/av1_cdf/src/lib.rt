@@ -13,7 +13,7 @@
 //! - `field_map`: the fields by name
 //! - `tables`: the tables that contexts start from, and their rules
 //! - `nmv`: the distributions of vectors that rav1e starts with
-//! - `laws`: what holds of the layout, of a context at its start, and of one whose CDF is written
+//! - `laws`: what holds of the layout, of a context at its start, and of one whose CDF learns or is written
 #![tactic(auto)]
 
 mod block_slots;
@@ -36,7 +36,7 @@ mod vector_slots;
 pub use cdf_context::{CDF_LEN_MAX, CDFContext};
 pub use cdf_offset::CDFOffset;
 pub use field_map::FieldMap;
-pub use laws::{law_of_layout, law_of_starting, law_of_writing};
+pub use laws::{law_of_layout, law_of_learning, law_of_starting, law_of_writing};
 pub use log::{CDFContextCheckpoint, CDFContextLog};
 pub use nmv::{NMVComponent, NMVContext, default_nmv_context};
 pub use tables::{Tables, check_tables};

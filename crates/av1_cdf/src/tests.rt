@@ -4,7 +4,7 @@ ghost use Rattle.av1_cdf.specs.Log.{KeepsUndone};
 
 use crate::{
     CDFContext, CDFContextLog, CDFOffset, FieldMap, Tables, check_tables, default_nmv_context,
-    law_of_layout, law_of_starting, law_of_writing,
+    law_of_layout, law_of_learning, law_of_starting, law_of_writing,
 };
 use av1_geometry::{OutOfMemory, Rule};
 use std::alloc::Global;
@@ -107,6 +107,7 @@ fn a_context_is_not_printed(rt: HostRuntime) -> Result<(), Fail> {
 fn vectors_start_as_in_rav1e(rt: HostRuntime) {
     law_of_layout();
     law_of_starting();
+    law_of_learning();
     law_of_writing();
     let start = default_nmv_context();
     assert_eq!(rt; start.joints_cdf, [28672, 21504, 13440, 0]);

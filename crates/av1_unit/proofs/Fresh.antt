@@ -9,7 +9,8 @@ use Rattle.av1_unit.specs.declared.tile.TileState.{TileState}
 use Rattle.av1_unit.specs.Tile.{fresh}
 use Rattle.av1_unit.specs.State.{tile_of}
 use Rattle.av1_unit.specs.Headline.{started, fresh_coding}
-use Rattle.av1_unit.specs.Sound.{AreCdfs, IsSound}
+use Rattle.av1_cdf.specs.Context.{AreCdfs}
+use Rattle.av1_unit.specs.Sound.{IsSound}
 use Rattle.av1_unit.specs.Coder.{IsNew, StandsAt}
 use Rattle.av1_unit.proofs.Coded.{coded_none}
 

@@ -12,7 +12,8 @@ use Rattle.av1_unit.specs.declared.unit.TileStep.TheVariants.{Block, Skip}
 use Rattle.av1_unit.specs.Tile.{Tile, contents, adapted}
 use Rattle.av1_unit.specs.Step.{question_of, answer_of, rules, syntax_of, symbols_of, entered}
 use Rattle.av1_unit.specs.Script.{with_answer, after, after_all, tokens_of, tile_after, read_steps, first_broken_step}
-use Rattle.av1_unit.specs.Sound.{AreCdfs, IsSound}
+use Rattle.av1_cdf.specs.Context.{AreCdfs}
+use Rattle.av1_unit.specs.Sound.{IsSound}
 use Rattle.av1_unit.proofs.StepLaws.{IsAllowed, leads, fits, cdfs_after}
 
 -- the tile after a step doesn't depend on what was coded before it

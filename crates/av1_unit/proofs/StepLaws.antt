@@ -3,7 +3,7 @@ use Rattle.std.proofs.Common.{◌≤◌, nat_lt, option_map, ◌≡◌, ℕ, zer
 use Rattle.std.proofs.lemmas.Bool.Decides.{nat_tests}
 use Rattle.std.specs.Option.{option_map_or}
 use Rattle.av1_cdf.specs.Layout.{Slot}
-use Rattle.av1_cdf.specs.Context.{with_contents}
+use Rattle.av1_cdf.specs.Context.{AreCdfs, with_contents}
 use Rattle.av1_cdf.specs.Tables.{first_broken}
 use Rattle.av1_model.specs.Cdf.{adapt}
 use Rattle.av1_model.specs.Paths.{context_along}
@@ -16,9 +16,9 @@ use Rattle.av1_unit.specs.declared.unit.TileStep.{TileStep}
 use Rattle.av1_unit.specs.declared.unit.TileStep.TheVariants.{Block, Skip}
 use Rattle.av1_unit.specs.Tile.{Tile, contents, adapted, skip_context, skip_slot, with_skip}
 use Rattle.av1_unit.specs.Step.{step_fault, most_bits, Question, IsBlock, IsSkip, Answer, Nothing, Flag, question_of, answer_of, rules, syntax_of, element, flag, symbols_of, entered}
-use Rattle.av1_unit.specs.Sound.{AreCdfs}
 use Rattle.av1_unit.specs.Script.{tile_after}
-use Rattle.av1_unit.proofs.Contexts.{contents_long, cdfs_adapted, skip_is_slot, skip_binary}
+use Rattle.av1_cdf.proofs.Learning.{contents_long, cdfs_adapted}
+use Rattle.av1_unit.proofs.Contexts.{skip_is_slot, skip_binary}
 
 -- a step's rules hold
 abbrev pub IsAllowed : TileStep → Tile → Type 0

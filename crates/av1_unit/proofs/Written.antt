@@ -18,7 +18,7 @@ use Rattle.av1_unit.specs.Script.{after_all}
 use Rattle.av1_unit.specs.Trials.{Progress, surviving, moved, moved_all, misplaced, item_fault, error_of, no_trial, first_wrong}
 use Rattle.av1_unit.specs.Framing.{framed}
 use Rattle.av1_unit.specs.Header.{base_q_idx}
-use Rattle.av1_unit.proofs.Contexts.{cdfs_start}
+use Rattle.av1_cdf.proofs.Learning.{cdfs_of_tables}
 use Rattle.av1_unit.specs.Headline.{frame_rules, begin, started, first_refusal, trial_costs, IsWritten}
 use Rattle.av1_unit.proofs.ReadingBack.{sound_after_all, read_all}
 use Rattle.av1_unit.proofs.Surviving.{none_match, survives}
@@ -33,7 +33,7 @@ written u bytes tile n report tables frame right final counted framed_is told =
     let end = after_all at steps in
     let s = survives at u.script 0 at [] [] [] [] refl refl (none_match at) right in
     let ends : (moved_all 0 (started at) u.script).at ≡ end = s.0 in
-    let sound = fresh_sound at.context.cols at.context.rows at.context.numbers (cdfs_start u.tables base_q_idx tables) in
+    let sound = fresh_sound at.context.cols at.context.rows at.context.numbers (cdfs_of_tables u.tables base_q_idx tables) in
     let valid = sound_after_all 0 at steps sound s.1 in
     let final : tile ≡ final_bytes end.interval = final ∙ ap (λ (a : Coding Tile). final_bytes a.interval) ends in
     let counted : n ≡ bits end.interval = counted ∙ ap (λ (a : Coding Tile). bits a.interval) ends in

@@ -8,7 +8,7 @@ ghost use Rattle.av1_cdf.specs.Tables.{first_broken};
 ghost use Rattle.av1_unit.specs.Step.{question_of, answer_of, rules, syntax_of, symbols_of};
 ghost use Rattle.av1_unit.specs.Script.{after_all, first_broken_step, read_steps};
 ghost use Rattle.av1_unit.specs.Headline.{fresh_coding};
-ghost use Rattle.av1_unit.specs.Sound.{AreCdfs};
+ghost use Rattle.av1_cdf.specs.Context.{AreCdfs};
 
 /// For each step that breaks no rule there is exactly one list of symbols that leads a reader to its answer.
 pub fn law_of_steps()

@@ -3,7 +3,7 @@ ghost use Rattle.std.specs.Prelude.{◌≡◌, ℕ, ◌&&◌, nat_lt, ◌+◌, �
 ghost use Rattle.std.specs.Option.{ForSome};
 ghost use Rattle.av1_model.specs.Position.{advance_all};
 ghost use Rattle.av1_ec.specs.Checkpoint.{KeepsCheckpoints};
-ghost use Rattle.av1_unit.specs.Sound.{AreCdfs};
+ghost use Rattle.av1_cdf.specs.Context.{AreCdfs};
 
 use crate::area::Area;
 use crate::frame::blocks_mi;

@@ -1,7 +1,8 @@
 use Rattle.std.proofs.Common.{◌<◌, length, arith}
 use Rattle.av1_cdf.specs.Context.{contents}
 use Rattle.av1_cdf.specs.Slots.{slot_of}
-use Rattle.av1_bench.proofs.Contexts.{contents_long, cdfs_after, reached_after, undone_after}
+use Rattle.av1_cdf.proofs.Learning.{contents_long}
+use Rattle.av1_bench.proofs.Contexts.{cdfs_after, reached_after, undone_after}
 use Rattle.av1_bench.proofs.Steps.{symbol_shift, stored_shift}
 use Rattle.av1_bench.proofs.learner.Learner.code.Goals as goal
 

@@ -2,11 +2,10 @@ use Rattle.std.proofs.Common.{◌<◌, ◌≤◌, List, ℕ, sym, subst, length,
 use Rattle.av1_model.specs.Cdf.{token_of}
 use Rattle.av1_model.proofs.Positions.{advance_shift}
 use Rattle.av1_model.proofs.Symbols.{token_valid}
-use Rattle.av1_cdf.specs.Context.{contents}
+use Rattle.av1_cdf.specs.Context.{AreCdfs, contents}
 use Rattle.av1_cdf.specs.Slots.{slot_of}
 use Rattle.av1_cdf.proofs.Cells.{slot_within}
-use Rattle.av1_unit.specs.Sound.{AreCdfs}
-use Rattle.av1_unit.proofs.Contexts.{contents_long, cdfs_adapted}
+use Rattle.av1_cdf.proofs.Learning.{contents_long, cdfs_adapted}
 use Rattle.av1_unit.proofs.tile.TileState.write_skip.Goals as goal
 
 pub symbol_with_update-requires-clause-cdf : goal.symbol_with_update-requires-clause-cdf
