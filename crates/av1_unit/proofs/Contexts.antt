@@ -1,6 +1,5 @@
--- The distributions of the skip flag, and rules that are not told.
-use Rattle.std.proofs.Common.{◌≡◌, ℕ, zero, suc, ◌<◌, Option, None, Some, option_map, IsTrue, refl, arith}
-use Rattle.av1_geometry.specs.declared.error.Rule.{Rule}
+-- The distributions of the skip flag.
+use Rattle.std.proofs.Common.{◌≡◌, ℕ, zero, suc, ◌<◌, IsTrue, refl, arith}
 use Rattle.av1_cdf.specs.Layout.{slot, is_slot, cell, layout, fields, vector_fields, component_fields}
 use Rattle.av1_unit.specs.Tile.{skip_slot}
 
@@ -18,11 +17,3 @@ skip_binary zero h = refl
 skip_binary (suc zero) h = refl
 skip_binary (suc (suc zero)) h = refl
 skip_binary (suc (suc (suc k))) h = absurd (omega arith)
-
--- no rule is told, so none is broken
-abbrev pub rule_of : ℕ → Rule
-rule_of n = record { 0 = n }
-
-pub none_told : (o : Option ℕ) → option_map rule_of o ≡ None → o ≡ None
-none_told None h = refl
-none_told (Some n) h = cc

@@ -8,7 +8,7 @@
 //! - `write`: `unit_bytes`, `write_unit`, `count_tile`
 //! - `coding`: from the items of a script to the bytes of a tile
 //! - `tile`, `area`: the state of a tile, its rules, and one step in it (`write_step`)
-//! - `check`: what is wrong with a step (`check_step`)
+//! - `check`: what is wrong with a unit before its items, and with a step (`check_step`)
 //! - `frame`: the rules of a frame
 //! - `header`, `framing`: the bits of the headers, and the OBUs
 //! - `report`, `error`: what is answered

@@ -4,12 +4,11 @@ ghost use Rattle.av1_bits.specs.Outside.{Rose, appended};
 ghost use Rattle.av1_unit.specs.declared.error.UnitError.TheVariants.{OutOfMemory as MemoryError, SinkFault};
 ghost use Rattle.av1_unit.specs.Headline.{first_refusal, tile_report, IsWritten};
 
+use crate::check::check_unit;
 use crate::coding::{CodedTile, code_by, code_tile};
-use crate::frame::check_frame;
 use crate::framing::frame_unit;
-use crate::{Place, Report, TileReport, Unit, UnitError, Via};
+use crate::{Report, TileReport, Unit, UnitError, Via};
 use av1_bits::{Failed, Sink, send_all};
-use av1_cdf::check_tables;
 use av1_ec::{Writer, WriterCounter};
 use av1_geometry::OutOfMemory;
 use std::alloc::Global;
@@ -24,14 +23,7 @@ pub fn unit_bytes(alloc: Global, unit: &Unit, via: Via) -> Result<(Vec<u8>, Repo
     ensures tiles { IfOk result (λ r. r.1.tiles ≡ tile_report unit.now ∷ []) }
     ensures refused { IfErr result (λ e. (e ≡ MemoryError) ⊎ (first_refusal unit.now ≡ Some e)) }
 {
-    if let Some(rule) = check_tables(&unit.tables) {
-        let place = Place::Tables;
-        return Err(UnitError::Refused { place, rule });
-    }
-    if let Some(rule) = check_frame(unit) {
-        let place = Place::Frame;
-        return Err(UnitError::Refused { place, rule });
-    }
+    check_unit(unit)?;
     let tile = code_tile(alloc, unit, via)?;
     let bytes = frame_unit(alloc, unit, &tile.bytes)?;
     let report = report_of(alloc, tile)?;
@@ -73,14 +65,7 @@ pub fn count_tile(alloc: Global, unit: &Unit, tile: usize) -> Result<TileReport,
     ensures valid { OnOk result (first_refusal unit.now ≡ None) }
     ensures refused { IfErr result (λ e. (e ≡ MemoryError) ⊎ (first_refusal unit.now ≡ Some e)) }
 {
-    if let Some(rule) = check_tables(&unit.tables) {
-        let place = Place::Tables;
-        return Err(UnitError::Refused { place, rule });
-    }
-    if let Some(rule) = check_frame(unit) {
-        let place = Place::Frame;
-        return Err(UnitError::Refused { place, rule });
-    }
+    check_unit(unit)?;
     let (counter, _) = code_by(alloc, unit, WriterCounter::new())?;
     let bits = counter.tell();
     let bytes = bits.div_ceil(8);

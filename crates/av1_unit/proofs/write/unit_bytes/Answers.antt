@@ -4,7 +4,6 @@ use Rattle.av1_unit.specs.Framing.{framed}
 use Rattle.av1_unit.specs.Headline.{ending}
 use Rattle.av1_unit.specs.Report.{ReportLists}
 use Rattle.av1_unit.specs.declared.report.TileReport.{TileReport}
-use Rattle.av1_unit.proofs.Contexts.{none_told}
 use Rattle.av1_unit.proofs.Written.{written}
 use Rattle.av1_unit.proofs.write.unit_bytes.Goals as goal
 
@@ -14,7 +13,7 @@ returns-clause-written c =
     let tile = c.in_ok-tile.tile in
     let coded = c.in_ok-tile.ensures in
     let told = c.in_ok-report.ensures ∙ ap (λ l. record { tiles = record { bytes = length tile.bytes.items; bits = tile.bits } ∷ []; trials = l }) coded.trials in
-    written u c.in_ok-bytes.bytes.items tile.bytes.items tile.bits c.in_ok-report.report (none_told _ (sym c.check_tables.ensures ∙ c.in_default.is)) (sym c.in_default-check_frame.ensures) coded.allowed coded.bytes coded.bits
+    written u c.in_ok-bytes.bytes.items tile.bytes.items tile.bits c.in_ok-report.report c.in_ok-check_unit.ensures.tables c.in_ok-check_unit.ensures.frame coded.allowed coded.bytes coded.bits
     (c.in_ok-bytes.ensures ∙ ap (λ (l : List ℕ). framed u l) c.deref.ensures.value) told
 
 pub returns-clause-tiles : goal.returns-clause-tiles
@@ -22,6 +21,3 @@ returns-clause-tiles c =
     let told : c.in_ok-report.report.tiles ≡ record { bytes = length c.in_ok-tile.tile.bytes.items; bits = c.in_ok-tile.tile.bits } ∷ [] = ap (λ (r : ReportLists). r.tiles) c.in_ok-report.ensures in
     told ∙ ap (λ (n : ℕ). record { bytes = n; bits = c.in_ok-tile.tile.bits } ∷ []) (ap (λ (l : List ℕ). length l) c.in_ok-tile.ensures.bytes)
     ∙ ap (λ (n : ℕ). record { bytes = length (final_bytes (ending c.args.unit.now)); bits = n } ∷ []) c.in_ok-tile.ensures.bits
-
-pub code_tile-requires-clause-tables : goal.code_tile-requires-clause-tables
-code_tile-requires-clause-tables c = none_told _ (sym c.check_tables.ensures ∙ c.in_default.is)
