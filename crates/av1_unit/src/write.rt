@@ -42,6 +42,7 @@ pub fn write_unit<S: Sink>(
 ) -> Result<Report, UnitError>
     ensures sent { IfOk result (λ report. (bytes : _) × IsWritten unit.now bytes report
         × (S.sent out.new ≡ appended (S.sent out.old) bytes) × (S.faults out.new ≡ S.faults out.old)) }
+    ensures tiles { IfOk result (λ report. report.tiles ≡ tile_report unit.now ∷ []) }
     ensures refused { IfErr result (λ e. (e ≡ MemoryError) ⊎ (e ≡ SinkFault) ⊎ (first_refusal unit.now ≡ Some e)) }
     ensures unsent { IfErr result (λ e. (e ≡ SinkFault)
         ⊎ ((S.sent out.new ≡ S.sent out.old) × (S.faults out.new ≡ S.faults out.old))) }
