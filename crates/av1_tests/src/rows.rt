@@ -6,7 +6,7 @@ use av1_ec::{Writer, WriterCounter};
 use av1_geometry::{BlockOffset, BlockSize, OutOfMemory, Rule, TileBlockOffset};
 use av1_unit::{
     Item, Place, Report, StepFault, TileReport, TileScript, TileState, TileStep, TrialCost, Unit,
-    UnitError, Via, check_frame, check_step, count_tile, unit_bytes, write_unit,
+    UnitError, Via, check_frame, check_step, count_tile, law_of_steps, unit_bytes, write_unit,
 };
 use std::alloc::{AllocError, Global};
 use std::process::Abort;
@@ -207,6 +207,7 @@ fn step<W: Writer>(tile: &mut TileState, w: &mut W, step: &TileStep) -> Result<b
     if let Some(_) = check_step(tile, w.tell(), step) {
         return Ok(false);
     }
+    law_of_steps();
     tile.write_step(w, step)?;
     Ok(true)
 }

@@ -8,6 +8,6 @@ mod Marks
 mod ReadingBack
 mod Rows
 mod Standing
-pub mod StepLaws
+mod StepLaws
 mod Surviving
 mod Written
