@@ -1,5 +1,5 @@
 // What holds of the layout, of the contexts that a tile starts with, and of one whose CDFs learn or are written.
-ghost use Rattle.std.specs.Prelude.{◌≡◌, ℕ, ◌+◌, ◌≤◌, ◌<◌, ◌⊎◌, List, None, IsTrue, length, slice_index};
+ghost use Rattle.std.specs.Prelude.{◌≡◌, ℕ, ◌+◌, ◌≤◌, ◌<◌, ◌⊎◌, List, None, IsTrue, length};
 ghost use Rattle.av1_model.specs.Cdf.{adapt};
 ghost use Rattle.av1_cdf.specs.Layout.{Slot, layout, rises, named, length_in, slot, is_slot, cell};
 ghost use Rattle.av1_cdf.specs.Context.{AreCdfs, contents, with_contents, uniform_numbers};

@@ -24,12 +24,11 @@ use Rattle.av1_unit.specs.declared.unit.Item.{Item}
 use Rattle.av1_unit.specs.declared.unit.TileStep.{TileStep}
 use Rattle.av1_unit.specs.Tile.{Tile, contents, adapted}
 use Rattle.av1_unit.specs.State.{tile_of}
-use Rattle.av1_cdf.specs.Tables.{first_broken}
 use Rattle.av1_unit.specs.Step.{most_bits, question_of, syntax_of, symbols_of}
 use Rattle.av1_unit.specs.Script.{after, tile_after, tokens_of}
 use Rattle.av1_unit.specs.Sound.{IsSound}
 use Rattle.av1_unit.specs.declared.error.StepFault.{StepFault}
-use Rattle.av1_unit.specs.Trials.{item_fault, error_of, Trial, Progress, with_costs, ended, cost_of, strays, same_superblock, moved, misplaced, item_rules, first_wrong}
+use Rattle.av1_unit.specs.Trials.{item_fault, error_of, Trial, Progress, with_costs, ended, cost_of, strays, same_superblock, moved, misplaced, first_wrong}
 use Rattle.av1_unit.specs.Coder.{HasCoded, all_costs, unknown_cost, MarkIs, AreMarks, StandsAt}
 use Rattle.av1_unit.proofs.StepLaws.{IsAllowed, fits}
 use Rattle.av1_unit.proofs.ReadingBack.{sound_after, shift_after, context-after}

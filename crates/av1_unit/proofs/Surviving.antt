@@ -2,9 +2,8 @@
 use Rattle.std.proofs.Common.{option_map, ◌≡◌, ℕ, ◌+◌, Bool, true, false, List, [], ◌∷◌, ◌++◌, Option, Some, None, refl, sym, ◌∙◌, ap, subst, if◌then◌else◌}
 use Rattle.std.specs.Option.{option_map_or}
 use Rattle.av1_model.specs.Reading.{Coding}
-use Rattle.av1_unit.specs.declared.error.Place.TheVariants.{Item as ItemPlace}
 use Rattle.av1_unit.specs.declared.error.UnitError.{UnitError}
-use Rattle.av1_unit.specs.declared.error.UnitError.TheVariants.{Refused, BadScript}
+use Rattle.av1_unit.specs.declared.error.UnitError.TheVariants.{BadScript}
 use Rattle.av1_unit.specs.declared.report.TrialCost.{TrialCost}
 use Rattle.av1_unit.specs.declared.unit.Item.{Item}
 use Rattle.av1_unit.specs.declared.unit.Item.TheVariants.{Step, Begin, Keep, Abandon}

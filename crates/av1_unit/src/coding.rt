@@ -1,5 +1,5 @@
 // From the items of a script to the bytes of a tile.
-ghost use Rattle.std.specs.Prelude.{◌≡◌, ◌⊎◌, ℕ, ◌+◌, ◌*◌, ◌^◌, ◌<◌, ◌≤◌, ◌∷◌, List, false, length, option_map, None, Some, IfOk, IfErr, OnOk, if◌then◌else◌};
+ghost use Rattle.std.specs.Prelude.{◌≡◌, ◌⊎◌, ℕ, ◌+◌, ◌*◌, ◌^◌, ◌≤◌, ◌∷◌, List, false, length, None, Some, IfOk, IfErr, OnOk};
 ghost use Rattle.av1_unit.specs.declared.error.UnitError.{UnitError};
 ghost use Rattle.av1_unit.specs.declared.error.UnitError.TheVariants.{OutOfMemory as MemoryError};
 ghost use Rattle.av1_unit.specs.declared.unit.Item.{Item};
@@ -48,7 +48,7 @@ pub(crate) struct TileCoder<W> {
 
 impl<W: Writer> TileCoder<W> {
     ghost use Rattle.av1_unit.specs.Coder.{StandsAt};
-    ghost use Rattle.av1_unit.specs.Trials.{Progress, moved, moved_all, ended, misplaced, item_fault, strays, no_trial, first_wrong, place_of};
+    ghost use Rattle.av1_unit.specs.Trials.{Progress, moved, moved_all, ended, misplaced, item_fault, strays, first_wrong, place_of};
     ghost use Rattle.av1_cdf.specs.Tables.{first_broken};
     ghost use Rattle.av1_unit.specs.declared.unit.Item.TheVariants.{Step, Begin, Keep, Abandon};
 

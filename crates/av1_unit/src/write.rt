@@ -1,5 +1,5 @@
 // A unit to its bytes, and to a sink.
-ghost use Rattle.std.specs.Prelude.{◌≡◌, ◌⊎◌, ℕ, ◌≤◌, ◌<◌, [], ◌∷◌, ◌^◌, length, take, Some, None, option_map, IfOk, IfErr, OnOk, OnErr, IsErrOf};
+ghost use Rattle.std.specs.Prelude.{◌≡◌, ◌⊎◌, ℕ, ◌<◌, [], ◌∷◌, ◌^◌, length, take, Some, None, IfOk, IfErr, OnOk, IsErrOf};
 ghost use Rattle.av1_bits.specs.Outside.{Rose, appended};
 ghost use Rattle.av1_unit.specs.declared.error.UnitError.TheVariants.{OutOfMemory as MemoryError, SinkFault};
 ghost use Rattle.av1_unit.specs.Headline.{first_refusal, tile_report, IsWritten};

@@ -1,7 +1,7 @@
-use Rattle.std.proofs.Common.{◌≡◌, ◌+◌, ◌/◌, ℕ, length, ◌∙◌, sym, ap, arith}
+use Rattle.std.proofs.Common.{◌≡◌, length, ◌∙◌, arith}
 use Rattle.av1_model.specs.Interval.{bits, final_bytes}
 use Rattle.av1_model.proofs.Final.{length-final_bytes}
-use Rattle.av1_unit.specs.Headline.{ending, tile_report}
+use Rattle.av1_unit.specs.Headline.{ending}
 use Rattle.av1_unit.proofs.Coded.{told_bits}
 use Rattle.av1_unit.proofs.write.count_tile.Goals as goal
 

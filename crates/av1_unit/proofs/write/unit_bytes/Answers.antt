@@ -1,9 +1,8 @@
-use Rattle.std.proofs.Common.{◌≡◌, List, ℕ, [], ◌∷◌, sym, ◌∙◌, ap, length}
+use Rattle.std.proofs.Common.{◌≡◌, List, ℕ, [], ◌∷◌, ◌∙◌, ap, length}
 use Rattle.av1_model.specs.Interval.{final_bytes}
 use Rattle.av1_unit.specs.Framing.{framed}
 use Rattle.av1_unit.specs.Headline.{ending}
 use Rattle.av1_unit.specs.Report.{ReportLists}
-use Rattle.av1_unit.specs.declared.report.TileReport.{TileReport}
 use Rattle.av1_unit.proofs.Written.{written}
 use Rattle.av1_unit.proofs.write.unit_bytes.Goals as goal
 
