@@ -1,13 +1,16 @@
 -- Numbers that fall.
-use Rattle.std.proofs.Common.{ℕ, ◌+◌, ◌<◌, ◌≤◌, List, slice_index, arith, inl, inr, subst, sym, ◌≡◌}
+use Rattle.std.proofs.Common.{ℕ, zero, suc, ◌+◌, ◌<◌, ◌≤◌, List, length, slice_index, arith, inl, inr, subst, sym, ◌≡◌, refl}
 use Rattle.std.proofs.lemmas.Bool.{cases_lt}
+use Rattle.av1_model.specs.Cdf.{IsCdf}
 
--- the first n numbers fall from below 32768, and none is less than a number
+-- the least of the first n numbers, or 32767 where n is 0
 pub record FallsTo (cdf : List ℕ) (n least : ℕ) : Type 0 where
   pub small : least < 32768
   pub below : (k : ℕ) → k < n → slice_index cdf k < 32768
   pub above : (k : ℕ) → k < n → least ≤ slice_index cdf k
   pub falls : (j k : ℕ) → j ≤ k → k < n → slice_index cdf k ≤ slice_index cdf j
+  pub none : n ≡ 0 → least ≡ 32767
+  pub last : (j : ℕ) → j + 1 ≡ n → least ≡ slice_index cdf j
 
 pub falls_none : (cdf : List ℕ) → FallsTo cdf 0 32767
 falls_none cdf = record {
@@ -15,6 +18,8 @@ falls_none cdf = record {
   below = λ k h. absurd (omega (arith, h));
   above = λ k h. absurd (omega (arith, h));
   falls = λ j k h l. absurd (omega (arith, l));
+  none = λ _. refl;
+  last = λ j h. absurd (omega (arith, h));
 }
 
 pub falls_more : (cdf : List ℕ) (n least : ℕ) → FallsTo cdf n least → slice_index cdf n ≤ least → FallsTo cdf (n + 1) (slice_index cdf n)
@@ -37,4 +42,11 @@ falls_more cdf n least f h =
           | inr i ↦ subst (λ x. slice_index cdf n ≤ slice_index cdf x) (sym (last j i (omega (arith, o, l)))) (omega arith)
         ])
       ];
+      none = λ e. absurd (omega (arith, e));
+      last = λ j e. let same : j ≡ n = omega (arith, e) in subst (λ x. slice_index cdf n ≡ slice_index cdf x) (sym same) refl;
     }
+
+-- where the next number is above the least one so far, the numbers are no CDF
+pub rises : (cdf : List ℕ) (n least : ℕ) → FallsTo cdf n least → n + 1 < length cdf → least < slice_index cdf n → IsCdf cdf → ⊥
+rises cdf zero least f l h c = omega (arith, f.none refl, c.below 0 l, h)
+rises cdf (suc n) least f l h c = omega (arith, f.last n (omega arith), c.falls n (suc n) (omega arith) l, h)

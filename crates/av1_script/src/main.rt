@@ -8,14 +8,18 @@
 //! `checkpoint` begins a trial, which `rollback` gives up and `keep` keeps; `restore` goes back to its beginning.
 //!
 //! - `script`: the lines in turn, and the trials
-//! - `play`: a line's call
-//! - `calls`: the calls, where few bits are written
-//! - `cdf`: whether numbers are a CDF
+//! - `play`: what a line does
+//! - `call`: the calls that code something
+//! - `question`: the calls that change nothing, and are answered with a number
+//! - `code`: the codes of one of several values, which are written or counted
+//! - `args`: the numbers of a line, as what a call takes
 #![tactic(auto)]
 
-mod calls;
-mod cdf;
+mod args;
+mod call;
+mod code;
 mod play;
+mod question;
 mod script;
 
 use crate::script::play_lines;

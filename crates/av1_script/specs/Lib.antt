@@ -1,0 +1,5 @@
+pub mod Call
+pub mod Code
+pub mod Line
+pub mod Play
+pub mod Question
