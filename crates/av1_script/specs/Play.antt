@@ -3,6 +3,7 @@ use Rattle.std.specs.Prelude.{◌≡◌, ℕ, [], ◌∷◌, List, ℤ, pos, cod
 use Rattle.av1_ec.specs.Writing.{with_fake}
 use Rattle.av1_model.specs.Position.{Position, advance_all}
 use Rattle.av1_script.specs.Call.{tokens_of, IsCallFrom}
+use Rattle.av1_script.specs.Line.{IsFirstWord}
 use Rattle.av1_script.specs.Question.{answer_at, IsQuestionFrom}
 use Rattle.av1_script.specs.declared.call.Call.{Call}
 use Rattle.av1_script.specs.declared.question.Question.{Question}
@@ -22,3 +23,8 @@ Asks name numbers old new answer = (question : Question) × IsQuestionFrom name 
 -- a line without an answer stores or adds, and one with an answer asks
 abbrev pub IsPlayed : List ℕ → List ℤ → Position → Position → Option ℕ → Type 0
 IsPlayed name numbers old new answered = MatchOption answered (Stores name numbers old new ⊎ AddsBitsFrac name numbers old new) (Asks name numbers old new)
+
+-- a text with no word leaves the writer as it is, and another is played by its first word and some numbers
+abbrev pub PlaysText : List ℕ → Position → Position → Type 0
+PlaysText text old new = (IsFirstWord text [] × (new ≡ old))
+    ⊎ ((name : List ℕ) × (numbers : List ℤ) × (answered : Option ℕ) × IsFirstWord text name × IsPlayed name numbers old new answered)

@@ -2,14 +2,22 @@
 ghost use Rattle.std.specs.Prelude.{◌≤◌, length, IfOk, OnOk};
 ghost use Rattle.av1_ec.specs.Checkpoint.{reach};
 ghost use Rattle.av1_ec.specs.declared.storage.WriterCheckpoint.{WriterCheckpoint};
+ghost use Rattle.av1_script.specs.Line.{IsFirstWord};
+ghost use Rattle.av1_script.specs.Play.{PlaysText};
 
 use crate::play::{numbers, play};
 use anyhow::{Result, bail};
 use av1_ec::{Writer, WriterBase, WriterCheckpoint, WriterEncoder};
 use std::alloc::Global;
 
-fn name_of(line: &str) -> &str {
-    line.split_whitespace().next().unwrap_or("")
+// The name that a line begins with, which is empty in an empty line.
+fn name_of(line: &str) -> &str
+    ensures { IsFirstWord line.now result.now }
+{
+    let Some(name) = line.split_whitespace().next() else {
+        return "";
+    };
+    name
 }
 
 // Plays a line that is a call, and tells the answer.
@@ -19,6 +27,7 @@ fn play_line<P: Print>(
     w: &mut WriterBase<WriterEncoder>,
     line: &str,
 ) -> Result<()>
+    ensures ok { OnOk result (PlaysText line.now (⟦<WriterBase<WriterEncoder> as Writer>⟧.position w.old) (⟦<WriterBase<WriterEncoder> as Writer>⟧.position w.new)) }
     ensures stored { OnOk result (⟦<WriterBase<WriterEncoder> as Writer>⟧.stored w.old ≤ ⟦<WriterBase<WriterEncoder> as Writer>⟧.stored w.new) }
     ensures reached { OnOk result ((c : WriterCheckpoint) → ⟦<WriterBase<WriterEncoder> as Writer>⟧.IsReached w.old c → ⟦<WriterBase<WriterEncoder> as Writer>⟧.IsReached w.new c) }
 {
