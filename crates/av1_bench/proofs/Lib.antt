@@ -1,3 +1,4 @@
 pub mod Contexts
 pub mod Skews
 pub mod Steps
+pub mod Sums

@@ -30,6 +30,12 @@ last_few most (x ∷ y ∷ ys) f = let e : length (x ∷ y ∷ ys) - 1 ≡ suc (
 falling : (l : List ℕ) → 2 ≤ length l → length l ≤ 16 → Falls 32767 l → IsCdf l
 falling l a b f = record { two = a; few = b; below = λ k h. omega (arith, at_most 32767 l f k h); falls = λ j k m h. fall 32767 l f j k m h; count = last_few 32767 l f }
 
+pub skew_13 : IsCdf (27920 ∷ 23461 ∷ 19389 ∷ 15705 ∷ 12409 ∷ 9500 ∷ 6980 ∷ 4847 ∷ 3102 ∷ 1745 ∷ 775 ∷ 193 ∷ 0 ∷ [])
+skew_13 = falling (27920 ∷ 23461 ∷ 19389 ∷ 15705 ∷ 12409 ∷ 9500 ∷ 6980 ∷ 4847 ∷ 3102 ∷ 1745 ∷ 775 ∷ 193 ∷ 0 ∷ []) (lit≤ tt) (lit≤ tt) (lit≤ tt, (lit≤ tt, (lit≤ tt, (lit≤ tt, (lit≤ tt, (lit≤ tt, (lit≤ tt, (lit≤ tt, (lit≤ tt, (lit≤ tt, (lit≤ tt, (lit≤ tt, lit≤ tt))))))))))))
+
+pub skew_14 : IsCdf (28254 ∷ 24074 ∷ 20229 ∷ 16718 ∷ 13541 ∷ 10699 ∷ 8192 ∷ 6018 ∷ 4179 ∷ 2674 ∷ 1504 ∷ 668 ∷ 167 ∷ 0 ∷ [])
+skew_14 = falling (28254 ∷ 24074 ∷ 20229 ∷ 16718 ∷ 13541 ∷ 10699 ∷ 8192 ∷ 6018 ∷ 4179 ∷ 2674 ∷ 1504 ∷ 668 ∷ 167 ∷ 0 ∷ []) (lit≤ tt) (lit≤ tt) (lit≤ tt, (lit≤ tt, (lit≤ tt, (lit≤ tt, (lit≤ tt, (lit≤ tt, (lit≤ tt, (lit≤ tt, (lit≤ tt, (lit≤ tt, (lit≤ tt, (lit≤ tt, (lit≤ tt, lit≤ tt)))))))))))))
+
 pub skew_15 : IsCdf (28544 ∷ 24612 ∷ 20971 ∷ 17621 ∷ 14563 ∷ 11796 ∷ 9320 ∷ 7136 ∷ 5242 ∷ 3640 ∷ 2330 ∷ 1310 ∷ 582 ∷ 145 ∷ 0 ∷ [])
 skew_15 = falling (28544 ∷ 24612 ∷ 20971 ∷ 17621 ∷ 14563 ∷ 11796 ∷ 9320 ∷ 7136 ∷ 5242 ∷ 3640 ∷ 2330 ∷ 1310 ∷ 582 ∷ 145 ∷ 0 ∷ []) (lit≤ tt) (lit≤ tt) (lit≤ tt, (lit≤ tt, (lit≤ tt, (lit≤ tt, (lit≤ tt, (lit≤ tt, (lit≤ tt, (lit≤ tt, (lit≤ tt, (lit≤ tt, (lit≤ tt, (lit≤ tt, (lit≤ tt, (lit≤ tt, lit≤ tt))))))))))))))
 

@@ -1,6 +1,8 @@
 // The distributions of the symbols, one for each size, and their coding.
-ghost use Rattle.std.specs.Prelude.{◌≡◌, ℕ, ◌+◌, ◌*◌, ◌%◌, ◌^◌, ◌<◌, ◌≤◌, length, slice_index};
-ghost use Rattle.av1_model.specs.Cdf.{IsCdf};
+ghost use Rattle.std.specs.Prelude.{◌≡◌, ℕ, ◌+◌, ◌*◌, ◌-◌, ◌/◌, ◌%◌, ◌^◌, ◌<◌, ◌≤◌, OnOk, OnErr, length, map, slice_index};
+ghost use Rattle.std.specs.List.{range_with_len};
+ghost use Rattle.av1_model.specs.Cdf.{IsCdf, token_of};
+ghost use Rattle.av1_model.specs.Position.{advance};
 
 use av1_ec::Writer;
 use av1_geometry::OutOfMemory;
@@ -8,7 +10,7 @@ use av1_geometry::OutOfMemory;
 // How many sizes there are, from 2 to 16.
 pub(crate) const ROUND: usize = 15;
 
-// Number i of n is 32768 (n - 1 - i)^2 / n^2, so that the last, the count, is 0.
+// Number i of n is 32768 (n - 1 - i)^2 / n^2, rounded down, so that the last, the count, is 0.
 const SKEW_2: [u16; 2] = [8192, 0];
 
 const SKEW_3: [u16; 3] = [14563, 3640, 0];
@@ -52,12 +54,14 @@ const SKEW_16: [u16; 16] = [
     0,
 ];
 
-// Codes a symbol, which takes at most 13 bits.
+// Codes a symbol, which takes at most 13 bits. A refusal leaves the writer's position as it was.
 #[inline(always)]
 fn coded<W: Writer>(w: &mut W, s: u8, cdf: &[u16]) -> Result<(), OutOfMemory>
     requires cdf { IsCdf cdf.now }
     requires s { s < length cdf.now }
     requires shift { (W.position w.old).shift + 13 ≤ 2 ^ 28 + 2 ^ 24 }
+    ensures ok { OnOk result (W.position w.new ≡ advance (W.position w.old) (token_of cdf.now s)) }
+    ensures err { OnErr result (W.position w.new ≡ W.position w.old) }
     ensures shift { (W.position w.new).shift ≤ (W.position w.old).shift + 13 }
 {
     w.symbol(u32::from(s), cdf)
@@ -94,6 +98,7 @@ fn skew(size: usize) -> &'static [u16]
     requires to { size ≤ 16 }
     ensures cdf { IsCdf result.now }
     ensures length { length result.now ≡ size }
+    ensures numbers { result.now ≡ map (λ i. 32768 * (size - 1 - i) ^ 2 / size ^ 2) (range_with_len 0 size) }
 {
     match size {
         2 => &SKEW_2,
