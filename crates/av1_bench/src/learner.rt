@@ -1,7 +1,7 @@
 // A context that learns from the symbols that are coded by it.
 ghost use Rattle.std.specs.Prelude.{◌≡◌, ◌+◌, ◌^◌, ◌<◌, ◌≤◌, OnOk, OnErr};
 ghost use Rattle.av1_cdf.specs.Context.{AreCdfs, contents, with_contents, uniform_numbers};
-ghost use Rattle.av1_cdf.specs.Log.{IsReached, undone};
+ghost use Rattle.av1_cdf.specs.Log.{IsReached, stored, undone};
 ghost use Rattle.av1_cdf.specs.Slots.{slot_of};
 ghost use Rattle.av1_model.specs.Cdf.{adapt, token_of};
 ghost use Rattle.av1_model.specs.Position.{advance};
@@ -30,6 +30,7 @@ impl Learner {
     pub(crate) fn new<W: Writer>(alloc: Global, w: &W) -> Learner
         ensures context { result.fc ≡ uniform_numbers }
         ensures undone { undone result.log result.fc result.log_mark ≡ uniform_numbers }
+        ensures empty { stored result.log ≡ 0 }
         ensures reached { W.IsReached w.now result.writer_mark }
         ensures mark { W.position_at w.now result.writer_mark ≡ W.position w.now }
     {
@@ -102,6 +103,7 @@ impl Learner {
     pub(crate) fn clear_log(&mut self)
         ensures context { self.new.fc ≡ self.old.fc }
         ensures undone { undone self.new.log self.new.fc self.new.log_mark ≡ self.old.fc }
+        ensures empty { stored self.new.log ≡ 0 }
         ensures writer_mark { self.new.writer_mark ≡ self.old.writer_mark }
     {
         self.log.clear();

@@ -1,5 +1,6 @@
 // The coding of symbols by CDFs that learn from them, also as trials.
-ghost use Rattle.std.specs.Prelude.{◌≡◌, ℕ, ◌+◌, ◌*◌, ◌%◌, ◌^◌, ◌<◌, ◌≤◌, length, slice_index};
+ghost use Rattle.std.specs.Prelude.{◌≡◌, ℕ, ◌+◌, ◌*◌, ◌%◌, ◌^◌, ◌<◌, ◌≤◌, OnOk, length, slice_index};
+ghost use Rattle.av1_cdf.specs.Log.{undone};
 
 use crate::learner::Learner;
 use crate::round::ROUND;
@@ -23,6 +24,7 @@ fn learn_round<W: Writer>(w: &mut W, learner: &mut Learner, s: &[u8]) -> Result<
     ensures shift { (W.position w.new).shift ≤ (W.position w.old).shift + 195 }
     ensures reached { W.IsReached w.new learner.new.writer_mark }
     ensures mark { W.position_at w.new learner.new.writer_mark ≡ W.position_at w.old learner.old.writer_mark }
+    ensures undone { undone learner.new.log learner.new.fc learner.new.log_mark ≡ undone learner.old.log learner.old.fc learner.old.log_mark }
 {
     learner.code(w, s[0], slot(2))?;
     learner.code(w, s[1], slot(3))?;
@@ -50,6 +52,7 @@ fn learn_rest<W: Writer>(w: &mut W, learner: &mut Learner, s: &[u8]) -> Result<(
     ensures shift { (W.position w.new).shift ≤ (W.position w.old).shift + 13 * length s.now }
     ensures reached { W.IsReached w.new learner.new.writer_mark }
     ensures mark { W.position_at w.new learner.new.writer_mark ≡ W.position_at w.old learner.old.writer_mark }
+    ensures undone { undone learner.new.log learner.new.fc learner.new.log_mark ≡ undone learner.old.log learner.old.fc learner.old.log_mark }
 {
     for (j, &x) in s.iter().enumerate() {
         learner.code(w, x, slot(j + 2))?;
@@ -57,7 +60,7 @@ fn learn_rest<W: Writer>(w: &mut W, learner: &mut Learner, s: &[u8]) -> Result<(
     Ok(())
 }
 
-// Codes symbols, round after round. The learner's mark stays.
+// Codes symbols, round after round. The learner's mark stays, and stands for what it stood for.
 fn learn<W: Writer>(w: &mut W, learner: &mut Learner, symbols: &[u8]) -> Result<(), OutOfMemory>
     requires symbols { (k : ℕ) → k < length symbols.now → slice_index symbols.now k < k % 15 + 2 }
     requires shift { (W.position w.old).shift + 13 * length symbols.now ≤ 2 ^ 28 + 2 ^ 24 }
@@ -65,6 +68,7 @@ fn learn<W: Writer>(w: &mut W, learner: &mut Learner, symbols: &[u8]) -> Result<
     ensures shift { (W.position w.new).shift ≤ (W.position w.old).shift + 13 * length symbols.now }
     ensures reached { W.IsReached w.new learner.new.writer_mark }
     ensures mark { W.position_at w.new learner.new.writer_mark ≡ W.position_at w.old learner.old.writer_mark }
+    ensures undone { undone learner.new.log learner.new.fc learner.new.log_mark ≡ undone learner.old.log learner.old.fc learner.old.log_mark }
 {
     let mut at = 0;
     while symbols.len() - at >= ROUND {
@@ -74,7 +78,7 @@ fn learn<W: Writer>(w: &mut W, learner: &mut Learner, symbols: &[u8]) -> Result<
     learn_rest(w, learner, &symbols[at..])
 }
 
-/// Codes all symbols, and clears the log now and then.
+/// Codes all symbols, and clears the log now and then. At the end it is clear, so that the context can go back no further.
 pub(crate) fn learn_all<W: Writer>(
     w: &mut W,
     learner: &mut Learner,
@@ -83,6 +87,8 @@ pub(crate) fn learn_all<W: Writer>(
     requires symbols { (k : ℕ) → k < length symbols.now → slice_index symbols.now k < k % 15 + 2 }
     requires shift { (W.position w.old).shift + 13 * length symbols.now ≤ 2 ^ 28 + 2 ^ 24 }
     requires reached { W.IsReached w.old learner.old.writer_mark }
+    ensures shift { (W.position w.new).shift ≤ (W.position w.old).shift + 13 * length symbols.now }
+    ensures cleared { OnOk result (undone learner.new.log learner.new.fc learner.new.log_mark ≡ learner.new.fc) }
 {
     let mut at = 0;
     while symbols.len() - at >= PART {
@@ -100,6 +106,7 @@ fn try_once<W: Writer>(w: &mut W, learner: &mut Learner, symbols: &[u8]) -> Resu
     requires symbols { (k : ℕ) → k < length symbols.now → slice_index symbols.now k < k % 15 + 2 }
     requires shift { (W.position w.old).shift + 13 * length symbols.now ≤ 2 ^ 28 + 2 ^ 24 }
     ensures shift { (W.position w.new).shift ≤ (W.position w.old).shift + 13 * length symbols.now }
+    ensures cleared { OnOk result (undone learner.new.log learner.new.fc learner.new.log_mark ≡ learner.new.fc) }
 {
     let before = w.tell_frac();
     learner.set_mark(w);
@@ -119,6 +126,8 @@ pub(crate) fn try_all<W: Writer>(
 ) -> Result<u32, OutOfMemory>
     requires symbols { (k : ℕ) → k < length symbols.now → slice_index symbols.now k < k % 15 + 2 }
     requires shift { (W.position w.old).shift + 13 * length symbols.now ≤ 2 ^ 28 + 2 ^ 24 }
+    ensures shift { (W.position w.new).shift ≤ (W.position w.old).shift + 13 * length symbols.now }
+    ensures cleared { OnOk result (undone learner.new.log learner.new.fc learner.new.log_mark ≡ learner.new.fc) }
 {
     let mut cost = 0u32;
     let mut at = 0;
