@@ -41,11 +41,7 @@ fn unit(alloc: Global, side: usize, items: &[Item]) -> Result<Unit, Fail> {
 }
 
 fn written(alloc: Global, unit: &Unit) -> Result<(Vec<u8>, Report), UnitError> {
-    written_by(alloc, unit, Via::Direct)
-}
-
-fn written_by(alloc: Global, unit: &Unit, via: Via) -> Result<(Vec<u8>, Report), UnitError> {
-    unit_bytes(alloc, unit, via)
+    unit_bytes(alloc, unit, Via::Direct)
 }
 
 fn sent(alloc: Global, out: &mut MemSink, unit: &Unit) -> Result<Report, UnitError> {
@@ -93,37 +89,53 @@ fn reads_back(
     Ok(())
 }
 
+// A unit of an 8x8 frame is written, in either way, as a tile of this byte and so many bits, with trials of these costs.
+fn is_written(
+    rt: &impl Abort,
+    alloc: Global,
+    items: &[Item],
+    (tile, bits): (u8, u32),
+    trials: &[TrialCost],
+) -> Result<(), Fail> {
+    let unit = unit(alloc, 8, items)?;
+    let mut want = HEAD.to_vec(alloc)?;
+    want.push(tile)?;
+    for via in [Via::Direct, Via::Recorded] {
+        let Ok((bytes, report)) = unit_bytes(alloc, &unit, via) else {
+            return Err("not written".into());
+        };
+        assert_eq!(rt; bytes.as_slice(), want.as_slice());
+        let [told] = report.tiles.as_slice() else {
+            return Err("not one tile".into());
+        };
+        assert_eq!(rt; (told.bytes, told.bits), (1, bits));
+        assert_eq!(rt; report.trials.as_slice(), trials);
+        reads_back(rt, alloc, &unit, &bytes, told)?;
+    }
+    Ok(())
+}
+
 #[test]
 fn worked_units_have_their_bytes_and_reports(rt: HostRuntime) -> Result<(), Fail> {
     let alloc = rt.alloc();
     let b8 = block(0, 0, BlockSize::BLOCK_8X8);
     let b4 = block(0, 0, BlockSize::BLOCK_4X4);
     let right = block(1, 0, BlockSize::BLOCK_4X4);
-    let rows = [
-        (unit(alloc, 8, &[])?, 0x80, 1),
-        (unit(alloc, 8, &[b8, skip(true)])?, 0xc0, 2),
-        (unit(alloc, 8, &[b8, skip(false)])?, 0x20, 3),
-        (
-            unit(alloc, 8, &[b4, skip(true), right, skip(false)])?,
-            0xa0,
-            3,
-        ),
-    ];
-    for (unit, tile, bits) in rows.iter() {
-        let Ok((bytes, report)) = written(alloc, unit) else {
-            return Err("not written".into());
-        };
-        let mut want = HEAD.to_vec(alloc)?;
-        want.push(*tile)?;
-        assert_eq!(rt; bytes.as_slice(), want.as_slice());
-        let [told] = report.tiles.as_slice() else {
-            return Err("not one tile".into());
-        };
-        assert_eq!(rt; (told.bytes, told.bits), (1, *bits));
-        assert!(rt; report.trials.is_empty());
-        reads_back(&rt, alloc, unit, &bytes, told)?;
+    let (on, off) = (skip(true), skip(false));
+    is_written(&rt, alloc, &[], (0x80, 1), &[])?;
+    is_written(&rt, alloc, &[b8, on], (0xc0, 2), &[])?;
+    is_written(&rt, alloc, &[b8, off], (0x20, 3), &[])?;
+    is_written(&rt, alloc, &[b4, on, right, off], (0xa0, 3), &[])
+}
+
+// What the one trial of a script costs that begins at item 1.
+fn trial(eighths: u32, kept: bool) -> TrialCost {
+    TrialCost {
+        tile: 0,
+        item: 1,
+        eighths,
+        kept,
     }
-    Ok(())
 }
 
 #[test]
@@ -132,50 +144,12 @@ fn trials_cost_and_abandoned_ones_leave_no_trace(rt: HostRuntime) -> Result<(), 
     let b8 = block(0, 0, BlockSize::BLOCK_8X8);
     let (on, off, start) = (skip(true), skip(false), begin(0, 0));
     let (keep, abandon) = (Item::Keep, Item::Abandon);
-    // items, the tile's byte, its bits, and of the first trial its item, its eighths, and whether it was kept
-    let rows = [
-        (
-            unit(alloc, 8, &[b8, start, off, abandon, on])?,
-            (0xc0, 2),
-            (1, 9, false),
-        ),
-        (
-            unit(alloc, 8, &[b8, start, on, on, on, abandon])?,
-            (0x80, 1),
-            (1, 22, false),
-        ),
-        (
-            unit(alloc, 8, &[b8, start, off, keep])?,
-            (0x20, 3),
-            (1, 9, true),
-        ),
-    ];
-    for (unit, (tile, bits), (item, eighths, kept)) in rows.iter() {
-        let Ok((bytes, report)) = written(alloc, unit) else {
-            return Err("not written".into());
-        };
-        let mut want = HEAD.to_vec(alloc)?;
-        want.push(*tile)?;
-        assert_eq!(rt; bytes.as_slice(), want.as_slice());
-        let [told] = report.tiles.as_slice() else {
-            return Err("not one tile".into());
-        };
-        assert_eq!(rt; (told.bytes, told.bits), (1, *bits));
-        let Ok((recorded, also)) = written_by(alloc, unit, Via::Recorded) else {
-            return Err("not written by a recorder".into());
-        };
-        assert_eq!(rt; recorded.as_slice(), bytes.as_slice());
-        assert_eq!(rt; also.trials.as_slice(), report.trials.as_slice());
-        let cost = TrialCost {
-            tile: 0,
-            item: *item,
-            eighths: *eighths,
-            kept: *kept,
-        };
-        assert_eq!(rt; report.trials.as_slice(), [cost].as_slice());
-        reads_back(&rt, alloc, unit, &bytes, told)?;
-    }
-    Ok(())
+    let given_up = [b8, start, off, abandon, on];
+    is_written(&rt, alloc, &given_up, (0xc0, 2), &[trial(9, false)])?;
+    let alone = [b8, start, on, on, on, abandon];
+    is_written(&rt, alloc, &alone, (0x80, 1), &[trial(22, false)])?;
+    let kept = [b8, start, off, keep];
+    is_written(&rt, alloc, &kept, (0x20, 3), &[trial(9, true)])
 }
 
 #[test]
