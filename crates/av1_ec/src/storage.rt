@@ -1,6 +1,6 @@
 // What differs from one writer to another.
 ghost use Rattle.std.specs.Prelude.{◌≡◌, ℕ, ℤ, ◌+◌, ◌^◌, ◌<◌, ◌≤◌, IsOk, OnOk, OnErr};
-ghost use Rattle.av1_model.specs.Interval.{Token, IsToken};
+ghost use Rattle.av1_model.specs.Interval.{IsToken};
 ghost use Rattle.av1_model.specs.Position.{Position, advance};
 ghost use Rattle.av1_ec.specs.Checkpoint.{reach, KeepsCheckpoints};
 ghost use Rattle.av1_ec.specs.Writing.{IsPosition, stream_bits_at, with_fake};

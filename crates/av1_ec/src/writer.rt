@@ -1,5 +1,5 @@
 // The calls that are the same for every storage.
-ghost use Rattle.std.specs.Prelude.{◌≡◌, ℕ, ◌+◌, ◌*◌, ◌/◌, ◌^◌, ◌<◌, ◌≤◌, length, nat_eq, max, pos, ◌-ℤ◌, ◌≤ℤ◌, ◌<ℤ◌, IsOk, OnOk, OnErr};
+ghost use Rattle.std.specs.Prelude.{◌≡◌, ℕ, ◌+◌, ◌*◌, ◌^◌, ◌<◌, ◌≤◌, length, nat_eq, max, pos, ◌-ℤ◌, ◌≤ℤ◌, ◌<ℤ◌, IsOk, OnOk, OnErr};
 ghost use Rattle.av1_cdf.specs.Context.{contents, with_contents};
 ghost use Rattle.av1_cdf.specs.Log.{KeepsUndone, saves_of, spare as log_spare};
 ghost use Rattle.av1_cdf.specs.Slots.{slot_of};

@@ -1,5 +1,5 @@
 // A symbol that adapts its CDF, and a trial of it; the numbers are worked by hand.
-ghost use Rattle.std.specs.Prelude.{◌≡◌, ◌+◌, ◌^◌, ◌≤◌, OnOk};
+ghost use Rattle.std.specs.Prelude.{◌+◌, ◌^◌, ◌≤◌, OnOk};
 ghost use Rattle.av1_cdf.specs.Context.{contents};
 ghost use Rattle.av1_cdf.specs.Log.{KeepsUndone};
 ghost use Rattle.av1_cdf.specs.Slots.{slot_of};

@@ -1,5 +1,5 @@
 // A recorder and a counter beside an encoder; the numbers are an independent program's.
-ghost use Rattle.std.specs.Prelude.{◌≡◌, ◌+◌, ◌^◌, ◌<◌, ◌≤◌, OnOk};
+ghost use Rattle.std.specs.Prelude.{◌+◌, ◌^◌, ◌<◌, ◌≤◌};
 ghost use Rattle.av1_ec.specs.Checkpoint.{KeepsCheckpoints};
 
 use crate::{
