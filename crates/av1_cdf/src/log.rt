@@ -1,5 +1,5 @@
 // What to put back into a context, to undo what was done to it.
-ghost use Rattle.std.specs.Prelude.{◌≡◌, ℕ, List, ◌+◌, ◌≤◌, ◌<◌, IsOk, OnOk, OnErr, length};
+ghost use Rattle.std.specs.Prelude.{◌≡◌, ℕ, List, ◌+◌, ◌≤◌, ◌<◌, IsOk, OnOk, OnErr, length, slice_index};
 
 use crate::cdf_context::{CDF_LEN_MAX, CDFContext};
 use crate::cdf_offset::CDFOffset;
@@ -32,7 +32,7 @@ impl Save {
         ensures { IsSaveOf fc.now cdf self.new }
     {
         self.cdf = cdf;
-        self.numbers[..cdf.len].copy_from_slice(fc.values_of(cdf));
+        copy_cdf(&mut self.numbers[..cdf.len], fc.values_of(cdf));
     }
 
     // Puts the numbers back.
@@ -41,9 +41,44 @@ impl Save {
     fn restore(&self, fc: &mut CDFContext)
         ensures { fc.new ≡ restored self.now fc.old }
     {
-        fc.values_mut(self.cdf)
-            .copy_from_slice(&self.numbers[..self.cdf.len]);
+        copy_cdf(fc.values_mut(self.cdf), &self.numbers[..self.cdf.len]);
     }
+}
+
+// Copies the numbers of a CDF, by two pieces of a length that the compiler knows, which may overlap.
+#[inline(always)]
+fn copy_cdf(to: &mut [u16], from: &[u16])
+    requires same { length to.old ≡ length from.now }
+    requires least { 2 ≤ length from.now }
+    requires most { length from.now ≤ 16 }
+    ensures { to.new ≡ from.now }
+{
+    let len = from.len();
+    if len >= 8 {
+        copy_piece::<8>(to, from, 0);
+        copy_piece::<8>(to, from, len - 8);
+    } else if len >= 4 {
+        copy_piece::<4>(to, from, 0);
+        copy_piece::<4>(to, from, len - 4);
+    } else {
+        copy_piece::<2>(to, from, 0);
+        copy_piece::<2>(to, from, len - 2);
+    }
+}
+
+// Copies so many numbers at a place.
+#[inline(always)]
+fn copy_piece<const N: usize>(to: &mut [u16], from: &[u16], at: usize)
+    requires same { length to.old ≡ length from.now }
+    requires within { at + N ≤ length from.now }
+    ensures same { length to.new ≡ length to.old }
+    ensures copied { (k : ℕ) → at ≤ k → k < at + N → slice_index to.new k ≡ slice_index from.now k }
+    ensures kept { (k : ℕ) → (k < at → slice_index to.new k ≡ slice_index to.old k) × (at + N ≤ k → slice_index to.new k ≡ slice_index to.old k) }
+{
+    // The piece in between is in no memory that `to` may be in.
+    let mut piece = [0; N];
+    piece.copy_from_slice(&from[at..at + N]);
+    to[at..at + N].copy_from_slice(&piece);
 }
 
 /// The saves of a context, the oldest first.
@@ -106,7 +141,7 @@ impl CDFContextLog {
         Ok(())
     }
 
-    // Twice the room at least. Rare, so that it stays out of the way of what is often.
+    // Twice the places at least. Rare, so that it stays out of the way of what is often.
     #[cold]
     #[inline(never)]
     fn grow(&mut self, pushes: usize) -> Result<(), OutOfMemory>
@@ -114,9 +149,9 @@ impl CDFContextLog {
         ensures ready { OnOk result (pushes ≤ spare self.new) }
         ensures spare { spare self.old ≤ spare self.new }
     {
-        let room = self.saves.len();
-        let more = room.checked_add(room.max(pushes)).ok_or(OutOfMemory)?;
-        self.saves.resize(more, Save::blank())?;
+        let places = self.saves.len();
+        let size = places.checked_add(places.max(pushes)).ok_or(OutOfMemory)?;
+        self.saves.resize(size, Save::blank())?;
         Ok(())
     }
 
