@@ -116,13 +116,6 @@ low_mask x n few =
     let high : 18446744073709551615 / p ≡ 2 ^ n - 1 = ap (λ y. y / p) parts ∙ div-mul-add (2 ^ n - 1) p (p - 1) (omega (arith, pow_pos (64 - n))) in
     ap (bit_and x) high ∙ and_mask x n
 
--- a shift of a small number that loses nothing
-pub width_fits : (a b : ℕ) → a ≤ 3 → b ≤ 12 → a * 2 ^ b % 65536 ≡ a * 2 ^ b
-width_fits a b few width =
-    let p : 2 ^ b < 2 ^ 13 = pow_below b 13 (omega (arith, width)) in
-    let product : a * 2 ^ b ≤ 3 * 2 ^ b = mul-le-mul_right (2 ^ b) few in
-    mod-eq_of_lt (let h : a * 2 ^ b < 65536 = omega (arith, product, p) in h)
-
 -- how far a number that more than one byte is left of has come
 pub leb_step : (count value : ℕ) → count ≤ 4 → value < 2 ^ (32 - 7 * count) → 128 ≤ value → (count + 1 ≤ 4) × (value / 128 < 2 ^ (32 - 7 * (count + 1)))
 leb_step count value few below high = elim (cases_lt count 4) [

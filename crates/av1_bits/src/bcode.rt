@@ -4,7 +4,7 @@ ghost use Rattle.av1_model.specs.Bits.{bits_of};
 ghost use Rattle.av1_model.specs.Codes.{quniform, subexp, recenter, recenter_finite, refsubexp, signed_refsubexp};
 
 use crate::BitWriter;
-use crate::word::{Word, quniform_word, subexp_word};
+use av1_codes::{Word, quniform_word, subexp_word};
 use av1_geometry::OutOfMemory;
 
 /// Writes one of `n` values by the codes of AV1's headers.
@@ -87,11 +87,11 @@ impl BCodeWriter for BitWriter {
     }
 
     fn write_quniform(&mut self, n: u16, v: u16) -> Result<(), OutOfMemory> {
-        self.write_word(quniform_word(n, v))
+        self.write_word(quniform_word(u32::from(n), u32::from(v)))
     }
 
     fn write_subexpfin(&mut self, n: u16, k: u16, v: u16) -> Result<(), OutOfMemory> {
-        self.write_word(subexp_word(n, k, v))
+        self.write_word(subexp_word(u32::from(n), k as u8, u32::from(v)))
     }
 
     fn write_refsubexpfin(&mut self, n: u16, k: u16, r: i16, v: i16) -> Result<(), OutOfMemory> {

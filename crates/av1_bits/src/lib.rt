@@ -16,7 +16,6 @@ mod mem_source;
 mod outside;
 mod standard;
 mod transfer;
-mod word;
 
 pub use bcode::BCodeWriter;
 pub use bit_writer::BitWriter;

@@ -21,7 +21,8 @@ use Rattle.av1_model.specs.Codes.{binary_digits, short_words, quniform, subexp_s
 use Rattle.av1_model.proofs.CodesDigits.{binary_digits-between}
 use Rattle.av1_model.proofs.CodesQuniform.{halves, quniform-one, quniform-short, quniform-long}
 use Rattle.av1_ec.specs.CodeTrees.{bit_symbols, bit_then, bits_below, literal_tree, quniform_tree, subexp_step_tree, subexp_tree_from, subexp_tree, refsubexp_tree, between_tree, golomb_tree_after, golomb_tree, AsksOnly, IsFlat, ReadsCode}
-use Rattle.av1_ec.specs.Flat.{bool_token, flat_tokens, golomb, refsubexp_between}
+use Rattle.av1_codes.specs.Codes.{golomb, refsubexp_between}
+use Rattle.av1_ec.specs.Flat.{bool_token, flat_tokens}
 
 -- what a bit is worth
 abbrev worth : Bool → ℕ

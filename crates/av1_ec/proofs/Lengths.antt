@@ -15,9 +15,10 @@ use Rattle.av1_model.proofs.CodesDigits.{binary_digits-few}
 use Rattle.av1_model.proofs.CodesQuniform.{quniform-one, quniform-short, quniform-number}
 use Rattle.av1_model.proofs.CodesSubexp.{step-last, step-low, step-high}
 use Rattle.av1_model.proofs.Positions.{advance_all_shift}
-use Rattle.av1_ec.specs.Flat.{bool_token, flat_tokens, golomb, refsubexp_between}
+use Rattle.av1_codes.specs.Codes.{golomb, refsubexp_between}
+use Rattle.av1_ec.specs.Flat.{bool_token, flat_tokens}
 use Rattle.av1_ec.specs.Writing.{IsPosition}
-use Rattle.av1_ec.proofs.Words.{digits_of_word}
+use Rattle.av1_codes.proofs.Words.{digits_of_word}
 
 bit_valid : (b : Bool) → IsToken (bool_token 16384 b)
 bit_valid true = record { below_whole = omega arith; below = omega arith; falls = omega arith; some = omega arith; few = omega arith }

@@ -8,5 +8,3 @@ pub mod Lengths
 pub mod OneRate
 pub mod Recording
 pub mod Replaying
-pub mod SignedRange
-pub mod Words

@@ -6,7 +6,7 @@ ghost use Rattle.av1_model.specs.Bits.{bits_of};
 ghost use Rattle.av1_model.specs.Position.{advance, advance_all};
 
 use crate::storage::StorageBackend;
-use crate::word::Word;
+use av1_codes::Word;
 use av1_geometry::OutOfMemory;
 
 // Stores a bit.

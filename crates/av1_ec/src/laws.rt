@@ -1,7 +1,8 @@
 // Laws of the codes.
 ghost use Rattle.std.specs.Prelude.{ℕ, ◌+◌, ◌^◌, ◌<◌, ◌≤◌, ◌≡◌, List, Bool, length, ℤ, pos, ◌-ℤ◌, ◌≤ℤ◌, ◌<ℤ◌, max};
 ghost use Rattle.av1_ec.specs.CodeTrees.{AsksOnly, IsFlat, ReadsCode, bit_symbols, literal_tree, golomb_tree, quniform_tree, subexp_tree, refsubexp_tree, between_tree};
-ghost use Rattle.av1_ec.specs.Flat.{flat_tokens, golomb, refsubexp_between};
+ghost use Rattle.av1_codes.specs.Codes.{golomb, refsubexp_between};
+ghost use Rattle.av1_ec.specs.Flat.{flat_tokens};
 ghost use Rattle.av1_ec.specs.Writing.{IsPosition};
 ghost use Rattle.av1_model.specs.Bits.{bits_of};
 ghost use Rattle.av1_model.specs.Codes.{quniform, subexp, refsubexp};

@@ -17,7 +17,7 @@
 //! - `recorder`: the storage that keeps the tokens, and their replay into another writer
 //! - `counter`: the storage that keeps no more than how many bits there are
 //! - `frac`: eighths of a bit
-//! - `flat`: bits that are stored as symbols, and `word`: the codes' words
+//! - `flat`: bits that are stored as symbols, as those of the codes' words
 //! - `adaptive`: a symbol by a CDF of a context, which learns from it
 //! - `laws`: how long the codes are, and how they are read back; `rates`: that all writers tell the same
 //! - `cdf`: how a distribution learns, and what its symbols have of 512
@@ -40,7 +40,6 @@ mod recorder;
 mod storage;
 #[cfg(test)]
 mod tests;
-mod word;
 mod writer;
 mod writer_base;
 

@@ -3,7 +3,8 @@ ghost use Rattle.std.specs.Prelude.{◌≡◌, ℕ, ◌+◌, ◌*◌, ◌^◌, �
 ghost use Rattle.av1_cdf.specs.Context.{contents, with_contents};
 ghost use Rattle.av1_cdf.specs.Log.{KeepsUndone, saves_of, spare as log_spare};
 ghost use Rattle.av1_cdf.specs.Slots.{slot_of};
-ghost use Rattle.av1_ec.specs.Flat.{bool_token, flat_tokens, golomb, refsubexp_between};
+ghost use Rattle.av1_codes.specs.Codes.{golomb, refsubexp_between};
+ghost use Rattle.av1_ec.specs.Flat.{bool_token, flat_tokens};
 ghost use Rattle.av1_model.specs.Bits.{bits_of};
 ghost use Rattle.av1_model.specs.Codes.{quniform, subexp, refsubexp};
 ghost use Rattle.av1_model.specs.Cdf.{IsCdf, adapt, token_of};
@@ -20,9 +21,9 @@ use crate::adaptive::store_and_adapt;
 use crate::flat::store_word;
 use crate::frac::{log_eighths, symbol_eighths};
 use crate::storage::{Storage, StorageBackend, WriterCheckpoint};
-use crate::word::{Word, golomb_word, quniform_word, refsubexp_word, signed_word, subexp_word};
 use crate::writer_base::{WriterBase, token};
 use av1_cdf::{CDFContext, CDFContextLog, CDFOffset};
+use av1_codes::{Word, golomb_word, quniform_word, refsubexp_word, signed_word, subexp_word};
 use av1_geometry::OutOfMemory;
 
 /// A writer of symbols, as rav1e's `Writer` of `src/ec.rs`.

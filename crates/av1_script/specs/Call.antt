@@ -1,6 +1,7 @@
 -- The calls that code something: their lines, and the tokens that they store.
 use Rattle.std.specs.Prelude.{ℕ, ◌+◌, ◌^◌, ◌<◌, ◌≤◌, List, [], ◌∷◌, nat_eq, map, ℤ, pos, codes, Option, if◌then◌else◌}
-use Rattle.av1_ec.specs.Flat.{bool_token, flat_tokens, golomb}
+use Rattle.av1_codes.specs.Codes.{golomb}
+use Rattle.av1_ec.specs.Flat.{bool_token, flat_tokens}
 use Rattle.av1_model.specs.Bits.{bits_of}
 use Rattle.av1_model.specs.Cdf.{token_of}
 use Rattle.av1_model.specs.Interval.{Token}

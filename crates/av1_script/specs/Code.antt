@@ -1,7 +1,7 @@
 -- The codes of one of several values: their lines, and their bits.
 use Rattle.std.specs.Prelude.{ℕ, ◌^◌, ◌<◌, ◌≤◌, max, List, [], ◌∷◌, Bool, ℤ, pos, ◌-ℤ◌, ◌≤ℤ◌, ◌<ℤ◌, FitsSigned, codes, Option}
 use Rattle.std.specs.Int.{w32}
-use Rattle.av1_ec.specs.Flat.{refsubexp_between}
+use Rattle.av1_codes.specs.Codes.{refsubexp_between}
 use Rattle.av1_model.specs.Codes.{quniform, subexp, refsubexp}
 use Rattle.av1_script.specs.Line.{IsReadFrom}
 use Rattle.av1_script.specs.declared.code.Code.{Code}

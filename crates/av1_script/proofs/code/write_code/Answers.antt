@@ -1,6 +1,6 @@
 use Rattle.std.proofs.Common.{arith, ℤ, ◌≤ℤ◌, ◌-ℤ◌, pos, ◌^◌, to_z, of_z, w32}
 use Rattle.std.proofs.lemmas.Int.{ints}
-use Rattle.av1_ec.specs.Flat.{refsubexp_between}
+use Rattle.av1_codes.specs.Codes.{refsubexp_between}
 use Rattle.av1_script.specs.Code.{IsAllowed}
 use Rattle.av1_script.specs.declared.code.Code.TheVariants.{SignedSubexp}
 use Rattle.av1_script.proofs.code.write_code.Goals as goal

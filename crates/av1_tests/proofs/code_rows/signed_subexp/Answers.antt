@@ -1,6 +1,6 @@
 use Rattle.std.proofs.Common.{arith, ℤ, ◌≤ℤ◌, ◌-ℤ◌, pos, ◌^◌, to_z, of_z, w32}
 use Rattle.std.proofs.lemmas.Int.{ints}
-use Rattle.av1_ec.specs.Flat.{refsubexp_between}
+use Rattle.av1_codes.specs.Codes.{refsubexp_between}
 use Rattle.av1_tests.proofs.code_rows.signed_subexp.Goals as goal
 
 pub write_signed_subexp_with_ref-requires-clause-shift : goal.write_signed_subexp_with_ref-requires-clause-shift

@@ -1,4 +1,0 @@
-use Rattle.av1_bits.proofs.word.+rising_word.Given as goal
-
-abbrev pub decreases-rising_word : goal.decreases-rising_word
-decreases-rising_word l = l.n

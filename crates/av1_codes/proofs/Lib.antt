@@ -1,0 +1,2 @@
+pub mod SignedRange
+pub mod Words
