@@ -8,9 +8,7 @@
 
 #[cfg(test)]
 mod code_rows;
-#[cfg(test)]
-mod reader;
+pub mod reader;
 #[cfg(test)]
 mod rows;
-#[cfg(test)]
-mod symbol_reader;
+pub mod symbol_reader;

@@ -1,11 +1,14 @@
 // A plain reader of a tile of `Block` and `Skip` steps. It keeps the whole low end of the interval as one number, so it
 // serves tiles of at most 100 bits. It shares no code with the encoder.
+ghost use Rattle.std.specs.Prelude.{◌≡◌, ◌+◌, ◌%◌, ◌^◌};
+
 use av1_geometry::BlockSize;
 use av1_unit::TileStep;
 
 /// The side of a frame in 4x4 blocks, at most.
 const SIDE: usize = 16;
 
+/// A reader of a tile's flags.
 #[derive(Drop)]
 pub struct PlainReader<'a> {
     bytes: &'a [u8],
@@ -18,7 +21,12 @@ pub struct PlainReader<'a> {
 }
 
 impl<'a> PlainReader<'a> {
-    pub fn new(bytes: &'a [u8]) -> Self {
+    /// A reader of these bytes that has read nothing: its interval is all from 0 to 1.
+    pub fn new(bytes: &'a [u8]) -> Self
+        ensures low { result.low ≡ 0 }
+        ensures range { result.range ≡ 32768 }
+        ensures shift { result.shift ≡ 0 }
+    {
         PlainReader {
             bytes,
             low: 0,
@@ -47,7 +55,9 @@ impl<'a> PlainReader<'a> {
     }
 
     /// How many bits were read.
-    pub fn bits(&self) -> u32 {
+    pub fn bits(&self) -> u32
+        ensures { result ≡ (self.now.shift + 1) % 2 ^ 32 }
+    {
         self.shift.wrapping_add(1)
     }
 

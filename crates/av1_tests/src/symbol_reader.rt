@@ -1,5 +1,8 @@
 // The AV1 specification's symbol decoder (sections 8.2.2 and 8.2.6) and the codes that it reads, on plain numbers. It
 // shares no code and no definition with the encoder.
+ghost use Rattle.std.specs.Prelude.{◌≡◌, ◌+◌, ◌*◌, ◌%◌, ◌^◌, ◌<◌, ◌≤◌};
+
+/// A reader of symbols and codes.
 #[derive(Drop)]
 pub struct SymbolReader<'a> {
     bytes: &'a [u8],
@@ -9,6 +12,7 @@ pub struct SymbolReader<'a> {
 }
 
 impl<'a> SymbolReader<'a> {
+    /// A reader of these bytes that has read nothing.
     pub fn new(bytes: &'a [u8]) -> Self {
         let mut reader = SymbolReader {
             bytes,
@@ -136,7 +140,13 @@ impl<'a> SymbolReader<'a> {
     }
 }
 
-fn inverse_recenter(r: u32, v: u32) -> u32 {
+// The value at distance `v` from `r`, above and below in turn, and past twice `r` by itself: `inverse_recenter` of the
+// specification.
+fn inverse_recenter(r: u32, v: u32) -> u32
+    ensures far { r < 2 ^ 31 → 2 * r < v → result ≡ v }
+    ensures below { r < 2 ^ 31 → v ≤ 2 * r → v % 2 ≡ 1 → 2 * result + v + 1 ≡ 2 * r }
+    ensures above { r < 2 ^ 31 → v ≤ 2 * r → v % 2 ≡ 0 → 2 * result ≡ 2 * r + v }
+{
     if v > r.wrapping_mul(2) {
         v
     } else if v % 2 == 1 {
