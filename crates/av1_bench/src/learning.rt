@@ -1,6 +1,5 @@
 // The coding of symbols by CDFs that learn from them, also as trials.
-ghost use Rattle.std.specs.Prelude.{◌≡◌, ℕ, ◌+◌, ◌*◌, ◌%◌, ◌^◌, ◌<◌, ◌≤◌, OnOk, length, slice_index};
-ghost use Rattle.av1_cdf.specs.Log.{undone};
+ghost use Rattle.std.specs.Prelude.{◌≡◌, ℕ, ◌+◌, ◌*◌, ◌%◌, ◌^◌, ◌<◌, ◌≤◌, length, slice_index};
 
 use crate::learner::Learner;
 use crate::round::ROUND;
@@ -14,6 +13,60 @@ const PART: usize = 270 * ROUND;
 // How many symbols a trial has.
 const TRIAL: usize = 4 * ROUND;
 
+// Codes those of the sizes 2 to 6.
+#[inline(always)]
+fn learn_small<W: Writer>(w: &mut W, learner: &mut Learner, s: &[u8]) -> Result<(), OutOfMemory>
+    requires whole { length s.now ≡ 15 }
+    requires symbols { (k : ℕ) → k < 15 → slice_index s.now k < k + 2 }
+    requires shift { (W.position w.old).shift + 65 ≤ 2 ^ 28 + 2 ^ 24 }
+    requires reached { W.IsReached w.old learner.old.writer_mark }
+    ensures shift { (W.position w.new).shift ≤ (W.position w.old).shift + 65 }
+    ensures reached { W.IsReached w.new learner.new.writer_mark }
+    ensures mark { W.position_at w.new learner.new.writer_mark ≡ W.position_at w.old learner.old.writer_mark }
+{
+    learner.code(w, s[0], slot(2))?;
+    learner.code(w, s[1], slot(3))?;
+    learner.code(w, s[2], slot(4))?;
+    learner.code(w, s[3], slot(5))?;
+    learner.code(w, s[4], slot(6))
+}
+
+// Codes those of the sizes 7 to 11.
+#[inline(always)]
+fn learn_middle<W: Writer>(w: &mut W, learner: &mut Learner, s: &[u8]) -> Result<(), OutOfMemory>
+    requires whole { length s.now ≡ 15 }
+    requires symbols { (k : ℕ) → k < 15 → slice_index s.now k < k + 2 }
+    requires shift { (W.position w.old).shift + 65 ≤ 2 ^ 28 + 2 ^ 24 }
+    requires reached { W.IsReached w.old learner.old.writer_mark }
+    ensures shift { (W.position w.new).shift ≤ (W.position w.old).shift + 65 }
+    ensures reached { W.IsReached w.new learner.new.writer_mark }
+    ensures mark { W.position_at w.new learner.new.writer_mark ≡ W.position_at w.old learner.old.writer_mark }
+{
+    learner.code(w, s[5], slot(7))?;
+    learner.code(w, s[6], slot(8))?;
+    learner.code(w, s[7], slot(9))?;
+    learner.code(w, s[8], slot(10))?;
+    learner.code(w, s[9], slot(11))
+}
+
+// Codes those of the sizes 12 to 16.
+#[inline(always)]
+fn learn_large<W: Writer>(w: &mut W, learner: &mut Learner, s: &[u8]) -> Result<(), OutOfMemory>
+    requires whole { length s.now ≡ 15 }
+    requires symbols { (k : ℕ) → k < 15 → slice_index s.now k < k + 2 }
+    requires shift { (W.position w.old).shift + 65 ≤ 2 ^ 28 + 2 ^ 24 }
+    requires reached { W.IsReached w.old learner.old.writer_mark }
+    ensures shift { (W.position w.new).shift ≤ (W.position w.old).shift + 65 }
+    ensures reached { W.IsReached w.new learner.new.writer_mark }
+    ensures mark { W.position_at w.new learner.new.writer_mark ≡ W.position_at w.old learner.old.writer_mark }
+{
+    learner.code(w, s[10], slot(12))?;
+    learner.code(w, s[11], slot(13))?;
+    learner.code(w, s[12], slot(14))?;
+    learner.code(w, s[13], slot(15))?;
+    learner.code(w, s[14], slot(16))
+}
+
 // Codes the symbols of a round, one of each size.
 #[inline(always)]
 fn learn_round<W: Writer>(w: &mut W, learner: &mut Learner, s: &[u8]) -> Result<(), OutOfMemory>
@@ -24,23 +77,10 @@ fn learn_round<W: Writer>(w: &mut W, learner: &mut Learner, s: &[u8]) -> Result<
     ensures shift { (W.position w.new).shift ≤ (W.position w.old).shift + 195 }
     ensures reached { W.IsReached w.new learner.new.writer_mark }
     ensures mark { W.position_at w.new learner.new.writer_mark ≡ W.position_at w.old learner.old.writer_mark }
-    ensures undone { undone learner.new.log learner.new.fc learner.new.log_mark ≡ undone learner.old.log learner.old.fc learner.old.log_mark }
 {
-    learner.code(w, s[0], slot(2))?;
-    learner.code(w, s[1], slot(3))?;
-    learner.code(w, s[2], slot(4))?;
-    learner.code(w, s[3], slot(5))?;
-    learner.code(w, s[4], slot(6))?;
-    learner.code(w, s[5], slot(7))?;
-    learner.code(w, s[6], slot(8))?;
-    learner.code(w, s[7], slot(9))?;
-    learner.code(w, s[8], slot(10))?;
-    learner.code(w, s[9], slot(11))?;
-    learner.code(w, s[10], slot(12))?;
-    learner.code(w, s[11], slot(13))?;
-    learner.code(w, s[12], slot(14))?;
-    learner.code(w, s[13], slot(15))?;
-    learner.code(w, s[14], slot(16))
+    learn_small(w, learner, s)?;
+    learn_middle(w, learner, s)?;
+    learn_large(w, learner, s)
 }
 
 // Codes the symbols of a round that is cut off.
@@ -52,7 +92,6 @@ fn learn_rest<W: Writer>(w: &mut W, learner: &mut Learner, s: &[u8]) -> Result<(
     ensures shift { (W.position w.new).shift ≤ (W.position w.old).shift + 13 * length s.now }
     ensures reached { W.IsReached w.new learner.new.writer_mark }
     ensures mark { W.position_at w.new learner.new.writer_mark ≡ W.position_at w.old learner.old.writer_mark }
-    ensures undone { undone learner.new.log learner.new.fc learner.new.log_mark ≡ undone learner.old.log learner.old.fc learner.old.log_mark }
 {
     for (j, &x) in s.iter().enumerate() {
         learner.code(w, x, slot(j + 2))?;
@@ -68,7 +107,6 @@ fn learn<W: Writer>(w: &mut W, learner: &mut Learner, symbols: &[u8]) -> Result<
     ensures shift { (W.position w.new).shift ≤ (W.position w.old).shift + 13 * length symbols.now }
     ensures reached { W.IsReached w.new learner.new.writer_mark }
     ensures mark { W.position_at w.new learner.new.writer_mark ≡ W.position_at w.old learner.old.writer_mark }
-    ensures undone { undone learner.new.log learner.new.fc learner.new.log_mark ≡ undone learner.old.log learner.old.fc learner.old.log_mark }
 {
     let mut at = 0;
     while symbols.len() - at >= ROUND {
@@ -78,7 +116,7 @@ fn learn<W: Writer>(w: &mut W, learner: &mut Learner, symbols: &[u8]) -> Result<
     learn_rest(w, learner, &symbols[at..])
 }
 
-/// Codes all symbols, and clears the log now and then. At the end it is clear, so that the context can go back no further.
+/// Codes all symbols, and clears the log now and then.
 pub(crate) fn learn_all<W: Writer>(
     w: &mut W,
     learner: &mut Learner,
@@ -87,8 +125,6 @@ pub(crate) fn learn_all<W: Writer>(
     requires symbols { (k : ℕ) → k < length symbols.now → slice_index symbols.now k < k % 15 + 2 }
     requires shift { (W.position w.old).shift + 13 * length symbols.now ≤ 2 ^ 28 + 2 ^ 24 }
     requires reached { W.IsReached w.old learner.old.writer_mark }
-    ensures shift { (W.position w.new).shift ≤ (W.position w.old).shift + 13 * length symbols.now }
-    ensures cleared { OnOk result (undone learner.new.log learner.new.fc learner.new.log_mark ≡ learner.new.fc) }
 {
     let mut at = 0;
     while symbols.len() - at >= PART {
@@ -106,7 +142,6 @@ fn try_once<W: Writer>(w: &mut W, learner: &mut Learner, symbols: &[u8]) -> Resu
     requires symbols { (k : ℕ) → k < length symbols.now → slice_index symbols.now k < k % 15 + 2 }
     requires shift { (W.position w.old).shift + 13 * length symbols.now ≤ 2 ^ 28 + 2 ^ 24 }
     ensures shift { (W.position w.new).shift ≤ (W.position w.old).shift + 13 * length symbols.now }
-    ensures cleared { OnOk result (undone learner.new.log learner.new.fc learner.new.log_mark ≡ learner.new.fc) }
 {
     let before = w.tell_frac();
     learner.set_mark(w);
@@ -126,8 +161,6 @@ pub(crate) fn try_all<W: Writer>(
 ) -> Result<u32, OutOfMemory>
     requires symbols { (k : ℕ) → k < length symbols.now → slice_index symbols.now k < k % 15 + 2 }
     requires shift { (W.position w.old).shift + 13 * length symbols.now ≤ 2 ^ 28 + 2 ^ 24 }
-    ensures shift { (W.position w.new).shift ≤ (W.position w.old).shift + 13 * length symbols.now }
-    ensures cleared { OnOk result (undone learner.new.log learner.new.fc learner.new.log_mark ≡ learner.new.fc) }
 {
     let mut cost = 0u32;
     let mut at = 0;

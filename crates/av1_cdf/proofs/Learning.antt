@@ -4,7 +4,8 @@ use Rattle.av1_model.specs.Cdf.{IsCdf, adapt}
 use Rattle.av1_model.proofs.Adapting.{adapt_valid, length-adapt}
 use Rattle.av1_cdf.specs.Context.{AreCdfs, contents, with_contents, uniform_numbers}
 use Rattle.av1_cdf.specs.Layout.{Slot, is_slot}
-use Rattle.av1_cdf.specs.Tables.{first_broken, table_rules, set_at, set_number}
+use Rattle.av1_cdf.specs.Tables.{table_rules, set_at, set_number}
+use Rattle.av1_geometry.specs.Rules.{first_broken}
 use Rattle.av1_cdf.proofs.Cells.{slot_within, slots_apart}
 use Rattle.av1_cdf.proofs.Parts.{written_length, part_written, part_stays}
 use Rattle.av1_cdf.proofs.Sets.{whole}

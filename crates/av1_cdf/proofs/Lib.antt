@@ -1,4 +1,5 @@
 pub mod Cells
+pub mod Distributions
 pub mod Learning
 pub mod Names
 pub mod NumbersMemory
@@ -7,4 +8,5 @@ pub mod Sets
 pub mod Tested
 pub mod Undoing
 pub mod Valid
+pub mod Windows
 pub mod Written

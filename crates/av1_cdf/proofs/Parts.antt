@@ -59,7 +59,7 @@ written_is xs from to ws a b e =
           ]
     ])
 
-part_at : (xs : List ℕ) (from to k : ℕ) → k < to - from → get_or (slice_range xs from to) k 0 ≡ get_or xs (from + k) 0
+pub part_at : (xs : List ℕ) (from to k : ℕ) → k < to - from → get_or (slice_range xs from to) k 0 ≡ get_or xs (from + k) 0
 part_at xs from to k h = get_or-take (to - from) (drop from xs) k 0 h ∙ get_or-drop from xs k 0
 
 part_length : (xs : List ℕ) (from to : ℕ) → to ≤ length xs → length (slice_range xs from to) ≡ to - from

@@ -1,11 +1,12 @@
 -- What the rules of tables say of each set.
 use Rattle.std.proofs.Common.{◌≡◌, ℕ, zero, suc, ◌<◌, List, [], ◌∷◌, length, Bool, true, false, nat_eq, None, IsTrue, eqb-true, refl, arith}
 use Rattle.std.specs.List.{list_all}
-use Rattle.av1_cdf.specs.Tables.{first_broken, table_rules, four_sets, of_size, valid_set, sets_agree, set_at}
+use Rattle.av1_cdf.specs.Tables.{table_rules, four_sets, of_size, valid_set, sets_agree, set_at}
+use Rattle.av1_geometry.specs.Rules.{first_broken, rule}
 use Rattle.av1_cdf.proofs.Cells.{both_true}
 
 -- where no rule is broken, each holds
-rules_hold : (a b c : Bool) → first_broken ((1, a) ∷ (2, b) ∷ (3, c) ∷ []) ≡ None → IsTrue a × IsTrue b × IsTrue c
+rules_hold : (a b c : Bool) → first_broken (rule 1 a ∷ rule 2 b ∷ rule 3 c ∷ []) ≡ None → IsTrue a × IsTrue b × IsTrue c
 rules_hold false b c h = cc
 rules_hold true false c h = cc
 rules_hold true true false h = cc

@@ -9,7 +9,8 @@ use Rattle.std.specs.Prelude.{if◌then◌else◌}
 use Rattle.av1_model.specs.Cdf.{IsCdf}
 use Rattle.av1_cdf.specs.Layout.{Slot, cell, is_slot, size_of_context}
 use Rattle.av1_cdf.specs.Context.{contents, even, uniform_number, uniform_numbers}
-use Rattle.av1_cdf.specs.Tables.{first_broken, table_rules, set_at, set_number, number_fits, valid_set}
+use Rattle.av1_cdf.specs.Tables.{table_rules, set_at, set_number, number_fits, valid_set}
+use Rattle.av1_geometry.specs.Rules.{first_broken}
 use Rattle.av1_cdf.proofs.Cells.{slot_within, slot_short, cell_of_slot}
 use Rattle.av1_cdf.proofs.Tested.{holds_at}
 use Rattle.av1_cdf.proofs.Sets.{whole, valid}

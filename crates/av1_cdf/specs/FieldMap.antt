@@ -10,6 +10,9 @@ Entry = List ℕ × ℕ × ℕ
 abbrev pub entry_of : Bor (List ℕ) × ℕ × ℕ → Entry
 entry_of e = (e.0.now, e.1, e.2)
 
+abbrev pub entries_of : List (Bor (List ℕ) × ℕ × ℕ) → List Entry
+entries_of es = map entry_of es
+
 abbrev pub of_field : Field → Entry
 of_field f = (f.name, f.place, f.place + count_in f.dimensions * length_in f.dimensions)
 

@@ -1,9 +1,12 @@
 pub mod Context
+pub mod Distribution
 pub mod FieldMap
 pub mod Layout
 pub mod Lending
 pub mod Log
+pub mod Part
 pub mod Runs
 pub mod Slots
 pub mod Tables
 pub mod Vectors
+pub mod Windows

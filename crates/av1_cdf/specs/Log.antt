@@ -1,61 +1,53 @@
 -- What a log undoes.
-use Rattle.std.specs.Prelude.{◌≡◌, ℕ, ◌+◌, ◌-◌, ◌<◌, ◌≤◌, List, [], ◌∷◌, Bool, ◌&&◌, nat_le, nat_lt, if◌then◌else◌, Option, Some, None, unwrap_or, length, slice_index, take, drop, map}
-use Rattle.std.specs.List.{range_with_len}
-use Rattle.av1_cdf.specs.Context.{with_contents}
-use Rattle.av1_cdf.specs.Slots.{slot_of}
+use Rattle.std.specs.Prelude.{◌≡◌, ℕ, ◌+◌, ◌≤◌, List, [], ◌∷◌, ◌++◌, nat_le, if◌then◌else◌, length, drop, min}
+use Rattle.av1_cdf.specs.Part.{part_spare, undone_part, window}
 use Rattle.av1_cdf.specs.declared.cdf_offset.CDFOffset.{CDFOffset}
-use Rattle.av1_cdf.specs.declared.log.Save.{Save}
+use Rattle.av1_cdf.specs.declared.part.Save.{Save}
 use Rattle.av1_cdf.specs.declared.log.CDFContextLog.{CDFContextLog}
 use Rattle.av1_cdf.specs.declared.log.CDFContextCheckpoint.{CDFContextCheckpoint}
 
--- whether a save has the number at a place
-abbrev pub has : Save → ℕ → Bool
-has s k = nat_le s.cdf.place k && nat_lt k (s.cdf.place + s.cdf.len)
+-- the saves of a log, the oldest first: those of 4 numbers, and those of 16
+abbrev pub small_saves : CDFContextLog → List (Save 4)
+small_saves log = log.small.saves.items
 
--- the number at a place in the first of these saves that has it
-abbrev pub saved_at : List Save → ℕ → Option ℕ
-saved_at [] k = None
-saved_at (s ∷ ss) k = if has s k then Some (slice_index s.numbers (k - s.cdf.place)) else saved_at ss k
+abbrev pub large_saves : CDFContextLog → List (Save 16)
+large_saves log = log.large.saves.items
 
--- the context in which each number that these saves have is that of the first that has it
-unfoldable pub undone_by : List Save → List ℕ → List ℕ
-undone_by saves context = map (λ k. unwrap_or (saved_at saves k) (slice_index context k)) (range_with_len 0 (length context))
+abbrev pub saves_of : CDFContextLog → List (Save 4) × List (Save 16)
+saves_of log = (small_saves log, large_saves log)
 
--- the saves of a log, the oldest first
-abbrev pub saves_of : CDFContextLog → List Save
-saves_of log = take log.len log.saves.items
+-- the saves of a log to which that of a CDF is appended, in the part for its length
+abbrev pub saves_after : CDFContextLog → List ℕ → CDFOffset → List (Save 4) × List (Save 16)
+saves_after log context cdf =
+    if nat_le cdf.len 4 then (small_saves log ++ window 4 context cdf.place ∷ [], large_saves log) else (small_saves log, large_saves log ++ window 16 context cdf.place ∷ [])
 
 -- how many saves a log has
 abbrev pub stored : CDFContextLog → ℕ
-stored log = length (saves_of log)
+stored log = length (small_saves log) + length (large_saves log)
 
--- how many saves fit before more memory is needed
+-- how many saves fit before more memory is needed, whichever they are
 abbrev pub spare : CDFContextLog → ℕ
-spare log = length log.saves.items - log.len
+spare log = min (part_spare log.small) (part_spare log.large)
 
--- how many saves there were at a checkpoint
-abbrev pub reach : CDFContextCheckpoint → ℕ
-reach c = c.saves
+-- how many saves of a CDF of n numbers fit
+abbrev pub spare_for : CDFContextLog → ℕ → ℕ
+spare_for log n = if nat_le n 4 then part_spare log.small else part_spare log.large
 
 -- a log still has the saves of a checkpoint
 abbrev pub IsReached : CDFContextLog → CDFContextCheckpoint → Type 0
-IsReached log c = reach c ≤ stored log
+IsReached log c = (c.small ≤ length (small_saves log)) × (c.large ≤ length (large_saves log))
+
+-- a checkpoint has no more saves than another
+abbrev pub IsWithin : CDFContextCheckpoint → CDFContextCheckpoint → Type 0
+IsWithin c d = (c.small ≤ d.small) × (c.large ≤ d.large)
 
 -- the context in which each number that a save past the checkpoint has is that of the oldest such save
 abbrev pub undone : CDFContextLog → List ℕ → CDFContextCheckpoint → List ℕ
-undone log context c = undone_by (drop (reach c) (saves_of log)) context
+undone log context c = undone_part 16 (drop c.large (large_saves log)) (undone_part 4 (drop c.small (small_saves log)) context)
 
--- no fewer saves are stored, and each checkpoint that is reached is still reached and stands for the same context
+-- no part has fewer saves, and each checkpoint that is reached is still reached and stands for the same context
 pub record KeepsUndone (old new : CDFContextLog) (before after : List ℕ) : Type 0 where
-  pub more : stored old ≤ stored new
+  pub small : length (small_saves old) ≤ length (small_saves new)
+  pub large : length (large_saves old) ≤ length (large_saves new)
   pub reached : (c : CDFContextCheckpoint) → IsReached old c → IsReached new c
   pub same : (c : CDFContextCheckpoint) → IsReached old c → undone new after c ≡ undone old before c
-
--- a save of what a CDF of a context has
-pub record IsSaveOf (context : List ℕ) (cdf : CDFOffset) (s : Save) : Type 0 where
-  pub named : s.cdf ≡ cdf
-  pub numbers : (i : ℕ) → i < cdf.len → slice_index s.numbers i ≡ slice_index context (cdf.place + i)
-
--- a context with the numbers of a save put back
-abbrev pub restored : Save → List ℕ → List ℕ
-restored s context = with_contents context (slot_of s.cdf) (take s.cdf.len s.numbers)

@@ -1,17 +1,9 @@
 -- The rules of the tables that a tile's context is made of.
-use Rattle.std.specs.Prelude.{ℕ, ◌+◌, ◌-◌, ◌*◌, List, [], ◌∷◌, Bool, ◌&&◌, ◌||◌, nat_eq, nat_lt, nat_le, if◌then◌else◌, Option, Some, None, length, slice_index, slice_index_or, codes}
+use Rattle.std.specs.Prelude.{ℕ, ◌+◌, ◌-◌, ◌*◌, List, [], ◌∷◌, Bool, ◌&&◌, ◌||◌, nat_eq, nat_lt, nat_le, if◌then◌else◌, length, slice_index, slice_index_or, codes}
 use Rattle.std.specs.List.{list_all, list_any, range_with_len}
 use Rattle.av1_cdf.specs.Layout.{Field, layout, named, cell, count_in, length_in, size_of_context}
 use Rattle.av1_cdf.specs.Context.{is_count, uniform_numbers}
-
--- a rule by its number, and whether it holds
-abbrev pub Check : Type 0
-Check = ℕ × Bool
-
--- the number of the first rule that is broken
-abbrev pub first_broken : List Check → Option ℕ
-first_broken [] = None
-first_broken (c ∷ cs) = if c.1 then first_broken cs else Some c.0
+use Rattle.av1_geometry.specs.Rules.{Check, rule}
 
 -- the fields that differ by quantizer
 unfoldable pub coefficient_fields : List (List ℕ)
@@ -71,7 +63,7 @@ sets_agree sets = list_all (λ k. is_coefficient k || same_at sets k) (range_wit
 
 -- the rules of tables, by rising numbers
 abbrev pub table_rules : List (List ℕ) → List Check
-table_rules sets = (1, four_sets sets) ∷ (2, list_all valid_set sets) ∷ (3, sets_agree sets) ∷ []
+table_rules sets = rule 1 (four_sets sets) ∷ rule 2 (list_all valid_set sets) ∷ rule 3 (sets_agree sets) ∷ []
 
 -- the set for a quantizer
 abbrev pub set_number : ℕ → ℕ

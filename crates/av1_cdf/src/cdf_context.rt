@@ -3,9 +3,10 @@ ghost use Rattle.std.specs.Prelude.{◌≡◌, ℕ, ◌+◌, ◌<◌, ◌≤◌,
 ghost use Rattle.std.specs.Borrow.{Lends, sem, u16 as number, Array};
 ghost use Rattle.av1_cdf.specs.Context.{contents, with_contents, uniform_numbers, with_counts_reset};
 ghost use Rattle.av1_cdf.specs.contracts.cdf_context.CDFContext.{the_row};
-ghost use Rattle.av1_cdf.specs.Log.{spare, KeepsUndone};
+ghost use Rattle.av1_cdf.specs.Log.{saves_of, saves_after, spare, spare_for, KeepsUndone};
 ghost use Rattle.av1_cdf.specs.Slots.{slot_of};
-ghost use Rattle.av1_cdf.specs.Tables.{first_broken, table_rules, set_at, set_number};
+ghost use Rattle.av1_cdf.specs.Tables.{table_rules, set_at, set_number};
+ghost use Rattle.av1_geometry.specs.Rules.{first_broken};
 
 use crate::cdf_offset::CDFOffset;
 use crate::log::CDFContextLog;
@@ -70,15 +71,16 @@ impl CDFContext {
         self.numbers.part_mut(cdf.place, cdf.place + cdf.len)
     }
 
-    /// Saves the numbers of a CDF in the log, which has room for it (`CDFContextLog::ready`), and hands them out to be changed.
-    /// Whatever is left there, each checkpoint that the log reaches stands for the context that it stood for. It is `push`
-    /// of rav1e's log.
+    /// Saves a CDF in the log, which has room for it (`CDFContextLog::ready`), and hands out its numbers to be changed:
+    /// `CDFContextLog::push` and `values_mut` in one call that can't fail. Whatever is left there, each checkpoint that
+    /// the log reaches stands for the context that it stood for.
     #[inline(always)]
     pub fn push(&mut self, log: &mut CDFContextLog, cdf: CDFOffset) -> &mut [u16]
-        requires room { 0 < spare log.old }
+        requires room { 0 < spare_for log.old cdf.len }
         ensures* writes_back { sem 𝓛 (Lends the_row (Array number 0) self.entry result (with_contents self.old (slot_of cdf))) }
         ensures value { result.now ≡ contents self.old (slot_of cdf) }
         ensures len { length result.now ≡ cdf.len }
+        ensures appended { saves_of log.new ≡ saves_after log.old self.old cdf }
         ensures saved { (ws : List ℕ) → KeepsUndone log.old log.new self.old (with_contents self.old (slot_of cdf) ws) }
         ensures spare { spare log.old ≤ spare log.new + 1 }
     {

@@ -1,6 +1,6 @@
 // The fields of the context by name.
-ghost use Rattle.std.specs.Prelude.{◌≡◌, IfOk, map, option_map};
-ghost use Rattle.av1_cdf.specs.FieldMap.{field_map, entry_of, name_at};
+ghost use Rattle.std.specs.Prelude.{◌≡◌, IfOk, option_map};
+ghost use Rattle.av1_cdf.specs.FieldMap.{field_map, entries_of, name_at};
 
 use crate::cdf_context::{CDFContext, NUMBERS};
 use crate::layout::{
@@ -17,6 +17,7 @@ use crate::layout::{
 };
 use av1_geometry::OutOfMemory;
 use std::alloc::Global;
+use std::marker::Model;
 
 // Name, first place and place past the end of each field.
 static FIELDS: [(&'static str, usize, usize); 53] = [
@@ -182,7 +183,7 @@ static FIELDS: [(&'static str, usize, usize); 53] = [
 impl CDFContext {
     /// Name, first place and place past the end of each field, by rising places.
     pub fn build_map(&self, alloc: Global) -> Result<Vec<(&'static str, usize, usize)>, OutOfMemory>
-        ensures { IfOk result (λ v. map entry_of v.items ≡ field_map) }
+        ensures { IfOk result (λ v. entries_of v.items ≡ field_map) }
     {
         Ok(Vec::from_slice(alloc, &FIELDS)?)
     }
@@ -194,10 +195,19 @@ pub struct FieldMap {
     pub map: Vec<(&'static str, usize, usize)>,
 }
 
+impl Model for FieldMap {
+    ghost use Rattle.std.specs.Prelude.{List};
+    ghost use Rattle.av1_cdf.specs.FieldMap.{Entry, entries_of};
+
+    ghost Value = { List Entry };
+
+    ghost view = { λ m. entries_of m.map.items };
+}
+
 impl FieldMap {
     /// The name of the first field that has a place.
     pub fn lookup(&self, place: usize) -> Option<&'static str>
-        ensures { option_map (λ name. name.now) result ≡ name_at place (map entry_of self.now.map.items) }
+        ensures { option_map (λ name. name.now) result ≡ name_at place self.now }
     {
         for (name, start, end) in &self.map {
             if *start <= place && place < *end {

@@ -7,7 +7,7 @@
 //! - `cdf_context`: the context, how it starts, and the reset of its counts
 //! - `cdf_offset`: a CDF of the context, by place and length
 //! - `numbers`: the array behind a context, of which a part is lent
-//! - `log`: what a context was, to go back to it
+//! - `log`, `part`: what a context was, to go back to it
 //! - `reference_slots`, `block_slots`, `intra_slots`, `transform_slots`, `coefficient_slots`, `vector_slots`: the CDFs by name
 //! - `layout`, `run`: the fields as runs of CDFs of one length, and the CDF that a place belongs to
 //! - `field_map`: the fields by name
@@ -27,6 +27,7 @@ mod layout;
 mod log;
 mod nmv;
 mod numbers;
+mod part;
 mod reference_slots;
 mod run;
 mod tables;
@@ -36,10 +37,10 @@ mod vector_slots;
 pub use cdf_context::{CDF_LEN_MAX, CDFContext};
 pub use cdf_offset::CDFOffset;
 pub use field_map::FieldMap;
-pub use laws::{law_of_layout, law_of_learning, law_of_starting, law_of_writing};
+pub use laws::{
+    law_of_distributions, law_of_layout, law_of_learning, law_of_starting, law_of_windows,
+    law_of_writing,
+};
 pub use log::{CDFContextCheckpoint, CDFContextLog};
 pub use nmv::{NMVComponent, NMVContext, default_nmv_context};
 pub use tables::{Tables, check_tables};
-
-#[cfg(test)]
-mod tests;

@@ -2,7 +2,8 @@
 ghost use Rattle.std.specs.Prelude.{◌≡◌, None, ◌≤◌, ◌<◌, ◌+◌, ◌&&◌, ◌||◌, true, nat_eq, [], ◌∷◌, length, nat_le, nat_lt, option_map, IfOk};
 ghost use Rattle.std.specs.List.{list_any};
 ghost use Rattle.av1_cdf.specs.Slots.{cell_of};
-ghost use Rattle.av1_cdf.specs.Tables.{first_broken, table_rules, set_at, set_number, number_fits, valid_set, is_coefficient, same_at, sets_agree, uniform_sets};
+ghost use Rattle.av1_cdf.specs.Tables.{table_rules, set_at, set_number, number_fits, valid_set, is_coefficient, same_at, sets_agree, uniform_sets};
+ghost use Rattle.av1_geometry.specs.Rules.{first_broken};
 
 use crate::cdf_context::{CDFContext, NUMBERS};
 use crate::layout::{
@@ -82,7 +83,7 @@ static COEFFICIENTS: [(usize, usize); 13] = [
 /// The broken rule of the lowest number: there are four sets of 5528 numbers (1), every CDF falls from below 32768
 /// and ends with a count of at most 32, and padding is 0 (2), and the sets agree outside the fields of coefficients (3).
 pub fn check_tables(tables: &Tables) -> Option<Rule>
-    ensures { result ≡ option_map (λ n. record { 0 = n }) (first_broken (table_rules tables.now)) }
+    ensures { result ≡ first_broken (table_rules tables.now) }
 {
     if tables.sets.len() != 4 {
         return Some(Rule(1));
@@ -96,7 +97,7 @@ pub fn check_tables(tables: &Tables) -> Option<Rule>
 }
 
 fn check_sets(a: &[u16], b: &[u16], c: &[u16], d: &[u16]) -> Option<Rule>
-    ensures { result ≡ option_map (λ n. record { 0 = n }) (first_broken (table_rules (a.now ∷ b.now ∷ c.now ∷ d.now ∷ []))) }
+    ensures { result ≡ first_broken (table_rules (a.now ∷ b.now ∷ c.now ∷ d.now ∷ [])) }
 {
     if !(a.len() == NUMBERS && b.len() == NUMBERS && c.len() == NUMBERS && d.len() == NUMBERS) {
         Some(Rule(1))

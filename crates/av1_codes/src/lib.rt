@@ -7,6 +7,3 @@
 mod word;
 
 pub use word::{Word, golomb_word, quniform_word, refsubexp_word, signed_word, subexp_word};
-
-#[cfg(test)]
-mod tests;

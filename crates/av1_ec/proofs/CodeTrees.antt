@@ -9,6 +9,11 @@ use Rattle.std.proofs.Math.Nat.{mod-eq_of_lt, mul-le-mul_right}
 use Rattle.std.proofs.Math.Pow.{pow_mono}
 use Rattle.av1_model.specs.Bits.{has_bit, bits_of}
 use Rattle.av1_model.specs.Cdf.{IsCdf, token_of}
+use Rattle.av1_model.specs.Comes.{Standing, standing, Writes}
+use Rattle.av1_model.specs.Element.{Asks, Reads}
+use Rattle.av1_model.specs.Interval.{whole}
+use Rattle.av1_model.specs.Position.{advance_all}
+use Rattle.av1_model.proofs.ComesLaws.{stored_is}
 use Rattle.av1_model.specs.Paths.{tokens_along, context_along}
 use Rattle.av1_model.specs.Reading.{Coding, coded, Fits}
 use Rattle.av1_model.specs.Syntax.{Syntax, Leads, bind, follow}
@@ -20,7 +25,7 @@ use Rattle.av1_model.proofs.TreeLaws.{leads_then, leads_apart}
 use Rattle.av1_model.specs.Codes.{binary_digits, short_words, quniform, subexp_step, subexp_from, subexp, recenter_finite, inverse_recenter_finite, refsubexp}
 use Rattle.av1_model.proofs.CodesDigits.{binary_digits-between}
 use Rattle.av1_model.proofs.CodesQuniform.{halves, quniform-one, quniform-short, quniform-long}
-use Rattle.av1_ec.specs.CodeTrees.{bit_symbols, bit_then, bits_below, literal_tree, quniform_tree, subexp_step_tree, subexp_tree_from, subexp_tree, refsubexp_tree, between_tree, golomb_tree_after, golomb_tree, AsksOnly, IsFlat, ReadsCode}
+use Rattle.av1_ec.specs.CodeTrees.{bit_symbols, bit_then, bits_below, literal_tree, quniform_tree, subexp_step_tree, subexp_tree_from, subexp_tree, refsubexp_tree, between_tree, golomb_tree_after, golomb_tree, AsksOnly, IsFlat, ReadsCode, code}
 use Rattle.av1_codes.specs.Codes.{golomb, refsubexp_between}
 use Rattle.av1_ec.specs.Flat.{bool_token, flat_tokens}
 
@@ -41,14 +46,14 @@ module _ {Q : Type 0} (q : Q) where
   asks_bind : {A B : Type 0} (t : Syntax Q A) (f : A → Syntax Q B) → AsksOnly q t → ((a : A) → AsksOnly q (f a)) → AsksOnly q (bind t f)
   asks_bind Bad f h k = tt
   asks_bind (Done a) f h k = k a
-  asks_bind (Ask p n) f h k = (h.0, λ s. asks_bind (n s) f (h.1 s) k)
+  asks_bind (Ask p n) f h k = (h.0, λ s l. ap (λ x. bind x f) (h.1 s l), λ s. asks_bind (n s) f (h.2 s) k)
 
   asks_either : {A : Type 0} (b : Bool) (t u : Syntax Q A) → AsksOnly q t → AsksOnly q u → AsksOnly q (if b then t else u)
   asks_either true t u h k = h
   asks_either false t u h k = k
 
   asks_bit : {A : Type 0} (k : ℕ → Syntax Q A) → ((s : ℕ) → AsksOnly q (k s)) → AsksOnly q (bit_then q k)
-  asks_bit k h = (refl, λ s. asks_either (nat_lt s 2) (k s) Bad (h s) tt)
+  asks_bit {A} k h = (refl, λ s l. ap (λ (b : Bool). if b then k s else Bad) (let e : nat_lt s 2 ≡ false = grind (arith, nat_tests, l) in e), λ s. asks_either (nat_lt s 2) (k s) Bad (h s) tt)
 
   below_asks : (n high : ℕ) → AsksOnly q (bits_below q n high)
   below_asks zero high = tt
@@ -421,20 +426,20 @@ module _ {Q : Type 0} (q : Q) where
     one_path = λ v ss h. let p = bit_apart (golomb_rest more n) ss v h in golomb_path more n (golomb_after_reads more (suc n)) v ss p.bit p.rest p.is p.leads;
   }
 
-  pub golomb_reads : ReadsCode q (golomb_tree q) (λ v. v + 1 < 2 ^ 32) golomb
+  pub golomb_reads : (most : ℕ) → ReadsCode q (golomb_tree q most) (λ v. v + 1 < 2 ^ most) golomb
   unfolding golomb_tree golomb_after HasDigits
-  golomb_reads =
+  golomb_reads most =
       let all : (v : ℕ) → golomb_after 0 v ≡ golomb v = λ v. let l = binary_digits (v + 1) in ap (λ k. replicate k false ++ bits_of l (v + 1)) (let e : l - 1 - 0 ≡ l - 1 = omega arith in e) in
       record {
-        asks = (golomb_after_reads 32 0).asks;
+        asks = (golomb_after_reads most 0).asks;
         leads = λ v h.
             let there = binary_digits-between (v + 1) (omega arith) in
-            let few : binary_digits (v + 1) ≤ 32 = elim (cases_lt 32 (binary_digits (v + 1))) [ inr l ↦ l | inl l ↦ absurd (omega (arith, h, there.from, pow_mono {i = 32} {j = binary_digits (v + 1) - 1} (omega (arith, l)))) ] in
-            subst (λ (bits : List Bool). Leads (golomb_tree_after q 32 0) (bit_symbols bits) v) (all v) ((golomb_after_reads 32 0).leads v (there.some, few));
+            let few : binary_digits (v + 1) ≤ most = elim (cases_lt most (binary_digits (v + 1))) [ inr l ↦ l | inl l ↦ absurd (omega (arith, h, there.from, pow_mono {i = most} {j = binary_digits (v + 1) - 1} (omega (arith, l)))) ] in
+            subst (λ (bits : List Bool). Leads (golomb_tree_after q most 0) (bit_symbols bits) v) (all v) ((golomb_after_reads most 0).leads v (there.some, omega (arith, few)));
         one_path = λ v ss h.
-            let p = (golomb_after_reads 32 0).one_path v ss h in
+            let p = (golomb_after_reads most 0).one_path v ss h in
             let there = binary_digits-between (v + 1) (omega arith) in
-            (omega (arith, there.to, pow_mono {i = binary_digits (v + 1)} {j = 32} (omega (arith, p.0.1))), p.1 ∙ ap bit_symbols (all v));
+            (omega (arith, there.to, pow_mono {i = binary_digits (v + 1)} {j = most} (omega (arith, p.0.1))), p.1 ∙ ap bit_symbols (all v));
       }
 
 even_cdf : IsCdf (16384 ∷ 0 ∷ [])
@@ -455,7 +460,7 @@ module _ {Q C : Type 0} (contents : C → Q → List ℕ) (adapted : C → Q →
   flat_context t [] c h = refl
   flat_context Bad (s ∷ ss) c h = refl
   flat_context (Done a) (s ∷ ss) c h = refl
-  flat_context (Ask p k) (s ∷ ss) c h = flat_context (k s) ss (adapted c p s) (h.1 s) ∙ ap (λ p. adapted c p s) h.0 ∙ flat.same c s
+  flat_context (Ask p k) (s ∷ ss) c h = flat_context (k s) ss (adapted c p s) (h.2 s) ∙ ap (λ p. adapted c p s) h.0 ∙ flat.same c s
 
   pub flat_along : {A : Type 0} (t : Syntax Q A) (bits : List Bool) (a : A) (c : C) → AsksOnly q t → Leads t (bit_symbols bits) a → tokens_along contents adapted t (bit_symbols bits) c ≡ flat_tokens bits
   flat_along t [] a c h l = refl
@@ -464,13 +469,38 @@ module _ {Q C : Type 0} (contents : C → Q → List ℕ) (adapted : C → Q →
   flat_along (Ask p k) (b ∷ bits) a c h l =
       let s = worth b in
       let rest = tokens_along contents adapted (k s) (bit_symbols bits) (adapted c p s) in
-      ap (λ cdf. token_of cdf s ∷ rest) (ap (contents c) h.0 ∙ flat.even c) ∙ ap (λ ts. bool_token 16384 b ∷ ts) (flat_along (k s) bits a (adapted c p s) (h.1 s) l)
+      ap (λ cdf. token_of cdf s ∷ rest) (ap (contents c) h.0 ∙ flat.even c) ∙ ap (λ ts. bool_token 16384 b ∷ ts) (flat_along (k s) bits a (adapted c p s) (h.2 s) l)
 
-  pub flat_fits : {A : Type 0} (t : Syntax Q A) (bits : List Bool) (a : A) (at : Coding C) → AsksOnly q t → Leads t (bit_symbols bits) a → Fits contents adapted t (bit_symbols bits) at
+  pub flat_fits : {A : Type 0} (t : Syntax Q A) (bits : List Bool) (a : A) (at : Coding C) → AsksOnly q t → Leads t (bit_symbols bits) a → Fits contents adapted t (bit_symbols bits) at.context
   flat_fits t [] a at h l = tt
   flat_fits Bad (b ∷ bits) a at h l = absurd cc
   flat_fits (Done d) (b ∷ bits) a at h l = absurd cc
   flat_fits (Ask p k) (b ∷ bits) a at h l =
       let e : contents at.context p ≡ 16384 ∷ 0 ∷ [] = ap (contents at.context) h.0 ∙ flat.even at.context in
       let w : worth b < 2 = elim b as (λ b. worth b < 2) [ true ↦ omega arith | false ↦ omega arith ] in
-      (subst IsCdf (sym e) even_cdf, subst (λ (cdf : List ℕ). worth b < length cdf) (sym e) w, flat_fits (k (worth b)) bits a (coded contents adapted at p (worth b)) (h.1 (worth b)) l)
+      (subst IsCdf (sym e) even_cdf, subst (λ (cdf : List ℕ). worth b < length cdf) (sym e) w, flat_fits (k (worth b)) bits a (coded contents adapted at p (worth b)) (h.2 (worth b)) l)
+
+  -- bits of a code are written where their tokens are stored and the context stays
+  pub flat_writes : {A : Type 0} (t : Syntax Q A) (bits : List Bool) (a : A) (old new : Standing C) → AsksOnly q t → Leads t (bit_symbols bits) a →
+      new.position ≡ advance_all old.position (flat_tokens bits) → new.context ≡ old.context → Writes contents adapted t a old new
+  flat_writes t bits a old new asks leads e f = record {
+    symbols = bit_symbols bits;
+    follows = leads;
+    fits = flat_fits t bits a (record { interval = whole; context = old.context }) asks leads;
+    wrote = (let p = e ∙ ap (advance_all old.position) (sym (flat_along t bits a old.context asks leads)) in let d = f ∙ sym (flat_context t (bit_symbols bits) old.context asks) in λ i. standing (p i) (d i))
+        ∙ sym (stored_is contents adapted t (bit_symbols bits) old);
+  }
+
+-- a code is an element with one path to each value
+module _ {Q : Type 0} (IsOne : Q → ℕ → Type 0) where
+  code_asks : {A : Type 0} (q : Q) (t : Syntax Q A) → IsOne q 2 → AsksOnly q t → Asks IsOne t
+  code_asks q Bad one h = tt
+  code_asks q (Done a) one h = tt
+  code_asks q (Ask p k) one h = (2, subst (λ x. IsOne x 2) (sym h.0) one, h.1, λ s l. code_asks q (k s) one (h.2 s))
+
+  length-bits : (bits : List Bool) → length (bit_symbols bits) ≡ length bits
+  length-bits [] = refl
+  length-bits (b ∷ bits) = ap suc (length-bits bits)
+
+  pub code_reads : {V : Type 0} (q : Q) (t : Syntax Q V) (P : V → Type 0) (word : V → List Bool) (most : ℕ) → IsOne q 2 → ReadsCode q t P word → ((v : V) → P v → length (word v) ≤ most) → Reads IsOne (code t word) P most
+  code_reads q t P word most one r few = record { leads = r.leads; one_path = r.one_path; asks = code_asks q t one r.asks; few = λ v h. let b = few v h in omega (arith, b, length-bits (word v)) }

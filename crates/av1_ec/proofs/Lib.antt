@@ -4,7 +4,10 @@ pub mod Counting
 pub mod Encoding
 pub mod Ending
 pub mod FlatBits
+pub mod Growing
 pub mod Lengths
+pub mod MovesLaws
+pub mod Moving
 pub mod OneRate
 pub mod Recording
 pub mod Replaying

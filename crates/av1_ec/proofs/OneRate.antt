@@ -1,13 +1,16 @@
 -- Writers that began alike tell the same.
-use Rattle.std.proofs.Common.{◌≡◌, ℕ, ◌+◌, ◌*◌, ◌/◌, List, [], ◌∷◌, ap, sym, refl, ◌∙◌, arith}
-use Rattle.std.specs.Prelude.{unwrap_or, length}
+use Rattle.std.proofs.Common.{◌≡◌, ℕ, ◌+◌, ◌*◌, ◌/◌, ◌≤◌, List, [], ◌∷◌, ap, sym, refl, ◌∙◌, arith}
+use Rattle.std.proofs.lemmas.List.Elements.{All-head, All-tail}
+use Rattle.std.specs.Prelude.{All, unwrap_or, length}
 use Rattle.av1_model.specs.Eighths.{eighths}
-use Rattle.av1_model.specs.Interval.{Interval, Token, narrow, whole, final_bytes}
-use Rattle.av1_model.specs.Position.{Position, advance_all, encoder_at, interval_of}
+use Rattle.av1_model.specs.Interval.{Interval, IsInterval, Token, IsToken, narrow, whole, final_bytes}
+use Rattle.av1_model.specs.Position.{Position, advance, advance_all, encoder_at, interval_of}
 use Rattle.av1_model.proofs.Final.{final_short}
-use Rattle.av1_model.proofs.Positions.{range_advanced_all, shift_advanced_all, fake_advanced_all, tokens_advanced_all}
+use Rattle.av1_model.proofs.Costs.{eighths_rise}
+use Rattle.av1_model.proofs.Positions.{advance_valid, range_advanced_all, shift_advanced_all, fake_advanced_all, tokens_advanced_all}
 use Rattle.av1_ec.specs.Rate.{tell_at, tell_frac_at, told, new_recorder, new_encoder, narrow_all}
 use Rattle.av1_ec.specs.Recorder.{tokens_at}
+use Rattle.av1_ec.proofs.FlatBits.{shift_rises}
 
 -- whatever else is known of them
 pub tell_alike : (p q : Position) (ts : List Token) (fake : ℕ) → p.range ≡ q.range → p.shift ≡ q.shift → p.fake ≡ q.fake → tell_at (told p ts fake) ≡ tell_at (told q ts fake)
@@ -38,3 +41,16 @@ replayed ts = ap (advance_all new_encoder) (tokens_recorded ts) ∙ encoder_narr
 pub ending_told : (p : Position) (bytes : List ℕ) → bytes ≡ final_bytes (interval_of p) → p.fake ≡ 0 → length bytes ≡ (tell_at p + 7) / 8
 ending_told p bytes e f =
     ap length e ∙ final_short (interval_of p) ∙ sym (ap (λ n. (p.shift + 1 + n / 256 + 7) / 8) f ∙ omega arith)
+
+-- a token costs no less than nothing, whatever else is known of the writer
+frac_step : (p : Position) (t : Token) → IsInterval (interval_of p) → IsToken t → eighths (interval_of p) ≤ eighths (interval_of (advance p t))
+frac_step p t v w = eighths_rise (interval_of p) t v w
+
+pub frac_rises : (p : Position) (ts : List Token) → IsInterval (interval_of p) → All IsToken ts → tell_frac_at p ≤ tell_frac_at (advance_all p ts)
+frac_rises p [] v w = omega arith
+frac_rises p (t ∷ ts) v w =
+    let h : IsToken t = All-head IsToken t ts w in
+    omega (arith, frac_step p t v h, frac_rises (advance p t) ts (advance_valid p t v h) (All-tail IsToken t ts w))
+
+pub tell_rises : (p : Position) (ts : List Token) → tell_at p ≤ tell_at (advance_all p ts)
+tell_rises p ts = let f = fake_advanced_all p ts in omega (arith, shift_rises p ts, ap (λ n. n / 256) f)

@@ -1,7 +1,8 @@
 -- What a reader does to take a code back from symbols, where each bit is a symbol of the distribution q: the trees of literal(n), NS(n) and so on of the AV1 specification.
-use Rattle.std.specs.Prelude.{◌≡◌, ℕ, zero, suc, ◌+◌, ◌-◌, ◌*◌, ◌^◌, List, [], ◌∷◌, Bool, nat_eq, nat_lt, nat_le, if◌then◌else◌, map, ℤ, pos, ◌+ℤ◌, ◌-ℤ◌, unsigned_abs}
+use Rattle.std.specs.Prelude.{◌≡◌, ℕ, zero, suc, ◌+◌, ◌-◌, ◌*◌, ◌^◌, ◌≤◌, List, [], ◌∷◌, Bool, nat_eq, nat_lt, nat_le, if◌then◌else◌, map, ℤ, pos, ◌+ℤ◌, ◌-ℤ◌, unsigned_abs}
 use Rattle.av1_model.specs.Syntax.{Syntax, Leads, bind}
 use Rattle.av1_model.specs.Syntax.Syntax.{Bad, Done, Ask}
+use Rattle.av1_model.specs.Element.{Element}
 use Rattle.av1_model.specs.Codes.{binary_digits, short_words, inverse_recenter_finite}
 
 -- the symbols that code bits
@@ -55,21 +56,25 @@ module _ {Q : Type 0} (q : Q) where
   golomb_tree_after zero n = Bad
   golomb_tree_after (suc more) n = bit_then (λ s. if nat_eq s 0 then golomb_tree_after more (suc n) else bind (bits_below n 1) (λ v. Done (v - 1)))
 
-  -- Exp-Golomb, of numbers below 2 ^ 32 - 1: golomb_length_bit and golomb_data_bit of the AV1 specification
-  unfoldable pub golomb_tree : Syntax Q ℕ
-  golomb_tree = golomb_tree_after 32 0
+  -- Exp-Golomb, of numbers below 2 ^ most - 1: golomb_length_bit and golomb_data_bit of the AV1 specification
+  unfoldable pub golomb_tree : ℕ → Syntax Q ℕ
+  golomb_tree most = golomb_tree_after most 0
 
-  -- each symbol is coded by q
+  -- each symbol is coded by q, and nothing fits one past 1
   abbrev pub AsksOnly : {A : Type 0} → Syntax Q A → Type 0
   AsksOnly Bad = Unit {0}
   AsksOnly (Done a) = Unit {0}
-  AsksOnly (Ask p k) = (p ≡ q) × ((s : ℕ) → AsksOnly (k s))
+  AsksOnly (Ask p k) = (p ≡ q) × ((s : ℕ) → 2 ≤ s → k s ≡ Bad) × ((s : ℕ) → AsksOnly (k s))
 
   -- a tree reads a code of these values: it reads bits alone, the bits of each value lead to it, and no other symbols do
   pub record ReadsCode {V : Type 0} (tree : Syntax Q V) (IsValue : V → Type 0) (word : V → List Bool) : Type 0 where
     pub asks : AsksOnly tree
     pub leads : (v : V) → IsValue v → Leads tree (bit_symbols (word v)) v
     pub one_path : (v : V) (symbols : List ℕ) → Leads tree symbols v → IsValue v × (symbols ≡ bit_symbols (word v))
+
+-- a code as an element, whose symbols are its bits
+abbrev pub code : {Q V : Type 0} → Syntax Q V → (V → List Bool) → Element Q V
+code tree word = record { tree = tree; symbols = λ v. bit_symbols (word v) }
 
 -- in every context a bit is as likely as not, and it changes no context
 pub record IsFlat {Q C : Type 0} (contents : C → Q → List ℕ) (adapted : C → Q → ℕ → C) (q : Q) : Type 0 where

@@ -5,7 +5,10 @@ pub mod CounterLaw
 pub mod Encoder
 pub mod EncoderLaw
 pub mod Flat
+pub mod Moves
+pub mod Learning
 pub mod Rate
 pub mod Recorder
 pub mod RecorderLaw
+pub mod Storing
 pub mod Writing

@@ -2,6 +2,8 @@
 ghost use Rattle.std.specs.Prelude.{◌≡◌, ℕ, ◌-◌, ◌/◌, ◌<◌, length, slice_index};
 ghost use Rattle.av1_model.specs.Cdf.{IsCdf, adapt, token_of};
 
+use crate::lanes::{learn_long, learn_short};
+
 /// Adapts a CDF after symbol `val`, as rav1e's `update_cdf` of `src/ec.rs`: the numbers before the symbol rise towards
 /// 32768, those from it on fall, and the count, in the last place, rises by one up to 32. The more symbols there are and
 /// the higher the count, the slower it learns.
@@ -14,14 +16,11 @@ pub fn update_cdf(cdf: &mut [u16], val: u32)
 {
     let last = cdf.len() - 1;
     let count = cdf[last];
-    let rate = 3 + (cdf.len() >> 1).min(2) + (count >> 4) as usize;
-    for i in 0..last {
-        let x = cdf[i];
-        cdf[i] = if (i as u32) < val {
-            x + ((32768 - x) >> rate)
-        } else {
-            x - (x >> rate)
-        };
+    let rate = 3 + (cdf.len() >> 1).min(2) as u16 + (count >> 4);
+    if cdf.len() >= 8 {
+        learn_long(cdf, val as u16, rate);
+    } else {
+        learn_short(cdf, val, rate);
     }
     cdf[last] = count + 1 - (count >> 5);
 }

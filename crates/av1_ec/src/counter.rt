@@ -3,6 +3,7 @@ ghost use Rattle.std.specs.Prelude.{◌≡◌, ◌^◌};
 ghost use Rattle.av1_ec.specs.Counter.{counter_position, IsCount, IsCounted};
 ghost use Rattle.av1_ec.specs.CounterLaw.{count_valid};
 
+use crate::known::Known;
 use crate::storage::{Storage, StorageBackend, Tally, WriterCheckpoint};
 use crate::writer_base::{WriterBase, lr_compute};
 use av1_geometry::OutOfMemory;
@@ -21,7 +22,7 @@ impl Storage for WriterCounter {
 impl WriterCounter {
     /// A counter that has counted nothing.
     pub fn new() -> WriterBase<WriterCounter>
-        ensures { ⟦<WriterBase<WriterCounter> as StorageBackend>⟧.position result ≡ counter_position 32768 0 0 }
+        ensures { ⟦<WriterBase<WriterCounter> as Known>⟧.position result ≡ counter_position 32768 0 0 }
     {
         WriterBase {
             rng: 32768,
@@ -32,7 +33,7 @@ impl WriterCounter {
     }
 }
 
-impl StorageBackend for WriterBase<WriterCounter> {
+impl Known for WriterBase<WriterCounter> {
     ghost position = { λ w. counter_position w.rng w.s.bits w.fake_bits_frac };
 
     ghost spare = { λ w. 2 ^ 64 };
@@ -42,7 +43,9 @@ impl StorageBackend for WriterBase<WriterCounter> {
     ghost IsReached = { λ w c. IsCounted w.s.bits c };
 
     ghost position_at = { λ w c. counter_position c.rng c.stream_size w.fake_bits_frac };
+}
 
+impl StorageBackend for WriterBase<WriterCounter> {
     #[inline(always)]
     fn store(&mut self, fl: u16, fh: u16, nms: u16) -> Result<(), OutOfMemory> {
         let (_, width) = lr_compute(self.rng, fl, fh, nms);

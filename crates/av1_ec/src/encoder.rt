@@ -7,6 +7,7 @@ ghost use Rattle.av1_ec.specs.Checkpoint.{IsBeginning, beginning_position};
 ghost use Rattle.av1_ec.specs.EncoderLaw.{position_valid};
 ghost use Rattle.av1_ec.specs.Rate.{tell_at};
 
+use crate::known::Known;
 use crate::precarry::{make_room, push_end, sum_carries};
 use crate::storage::{Storage, StorageBackend, Tally, WriterCheckpoint};
 use crate::writer_base::{WriterBase, count_of, lr_compute};
@@ -29,7 +30,7 @@ impl Storage for WriterEncoder {
 impl WriterEncoder {
     /// An encoder that has coded nothing. It takes no memory yet.
     pub fn new(alloc: Global) -> WriterBase<WriterEncoder>
-        ensures { ⟦<WriterBase<WriterEncoder> as StorageBackend>⟧.position result ≡ encoder_at whole }
+        ensures { ⟦<WriterBase<WriterEncoder> as Known>⟧.position result ≡ encoder_at whole }
     {
         WriterBase {
             rng: 32768,
@@ -48,8 +49,8 @@ impl WriterBase<WriterEncoder> {
     /// bits that fill the last byte. What follows the bytes has to be zero bits too, or the point may leave the interval.
     /// Where no fake bits were added, they are as many bits as `tell` says, in whole bytes.
     pub fn done(self) -> Result<Vec<u8>, OutOfMemory>
-        ensures bytes { IfOk result (λ v. v.items ≡ final_bytes (interval_of (⟦<WriterBase<WriterEncoder> as StorageBackend>⟧.position self))) }
-        ensures told { let p = ⟦<WriterBase<WriterEncoder> as StorageBackend>⟧.position self in IfOk result (λ v. p.fake ≡ 0 → length v.items ≡ (tell_at p + 7) / 8) }
+        ensures bytes { IfOk result (λ v. v.items ≡ final_bytes (interval_of (⟦<WriterBase<WriterEncoder> as Known>⟧.position self))) }
+        ensures told { let p = ⟦<WriterBase<WriterEncoder> as Known>⟧.position self in IfOk result (λ v. p.fake ≡ 0 → length v.items ≡ (tell_at p + 7) / 8) }
     {
         let weight = self.weight();
         let WriterBase {
@@ -64,7 +65,7 @@ impl WriterBase<WriterEncoder> {
     }
 }
 
-impl StorageBackend for WriterBase<WriterEncoder> {
+impl Known for WriterBase<WriterEncoder> {
     ghost position = { λ w. encoder_position w.s.precarry.items w.s.low w.rng w.cnt w.fake_bits_frac };
 
     ghost spare = { λ w. (vec_capacity w.s.precarry - vec_len w.s.precarry) / 2 };
@@ -74,7 +75,9 @@ impl StorageBackend for WriterBase<WriterEncoder> {
     ghost IsReached = { λ w c. IsBeginning w.s.precarry.items c };
 
     ghost position_at = { λ w c. beginning_position w.s.precarry.items w.fake_bits_frac c };
+}
 
+impl StorageBackend for WriterBase<WriterEncoder> {
     #[inline(always)]
     fn store(&mut self, fl: u16, fh: u16, nms: u16) -> Result<(), OutOfMemory> {
         let (above, width) = lr_compute(self.rng, fl, fh, nms);
@@ -133,6 +136,3 @@ impl StorageBackend for WriterBase<WriterEncoder> {
 
     ghost valid = { λ w. position_valid w.s.precarry.items w.s.low w.rng w.cnt w.fake_bits_frac w.window w.fake };
 }
-
-#[cfg(test)]
-mod tests;

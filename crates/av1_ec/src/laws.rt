@@ -5,9 +5,10 @@ ghost use Rattle.av1_codes.specs.Codes.{golomb, refsubexp_between};
 ghost use Rattle.av1_ec.specs.Flat.{flat_tokens};
 ghost use Rattle.av1_ec.specs.Writing.{IsPosition};
 ghost use Rattle.av1_model.specs.Bits.{bits_of};
+ghost use Rattle.av1_model.specs.Cdf.{IsCdf, token_of};
 ghost use Rattle.av1_model.specs.Codes.{quniform, subexp, refsubexp};
 ghost use Rattle.av1_model.specs.Paths.{tokens_along, context_along};
-ghost use Rattle.av1_model.specs.Position.{Position, advance_all};
+ghost use Rattle.av1_model.specs.Position.{Position, advance, advance_all};
 ghost use Rattle.av1_model.specs.Reading.{Coding, Fits};
 ghost use Rattle.av1_model.specs.Syntax.{Syntax, Leads};
 
@@ -22,11 +23,17 @@ pub fn law_of_lengths()
     ensures near { (p : Position) (bits : List Bool) → IsPosition p → length bits ≤ 64 → p.shift ≤ 2 ^ 28 → (advance_all p (flat_tokens bits)).shift ≤ 2 ^ 28 + 2 ^ 24 }
 {}
 
+/// A symbol takes at most 13 bits.
+pub fn law_of_symbol_lengths()
+    ensures { (p : Position) (cdf : List ℕ) (s : ℕ) → IsPosition p → IsCdf cdf → s < length cdf →
+        (advance p (token_of cdf s)).shift ≤ p.shift + 13 }
+{}
+
 /// In each code a reader asks for bits alone, the bits of a value lead to it, and no other symbols do. `q` is what codes a bit.
 /// The trees are trees of elements, so a reader goes on after one by `bind`.
 pub fn law_of_code_trees<Q>()
     ensures literal { (q : Q) (n : ℕ) → ReadsCode q (literal_tree q n) (λ v. v < 2 ^ n) (bits_of n) }
-    ensures golomb { (q : Q) → ReadsCode q (golomb_tree q) (λ v. v + 1 < 2 ^ 32) golomb }
+    ensures golomb { (q : Q) (most : ℕ) → ReadsCode q (golomb_tree q most) (λ v. v + 1 < 2 ^ most) golomb }
     ensures quniform { (q : Q) (n : ℕ) → ReadsCode q (quniform_tree q n) (λ v. v < max n 1) (quniform n) }
     ensures subexp { (q : Q) (n k : ℕ) → ReadsCode q (subexp_tree q n k) (λ v. v < max n 1) (subexp n k) }
     ensures refsubexp { (q : Q) (n k r : ℕ) → r < n → ReadsCode q (refsubexp_tree q n k r) (λ v. v < n) (refsubexp n k r) }
@@ -38,7 +45,7 @@ pub fn law_of_code_trees<Q>()
 /// tree's path has, and each symbol fits. `C` is the context that has the distributions.
 pub fn law_of_flat_paths<C, Q, A>()
     ensures fits { (contents : C → Q → List ℕ) (adapted : C → Q → ℕ → C) (q : Q) (t : Syntax Q A) (bits : List Bool) (a : A) (at : Coding C) →
-        IsFlat contents adapted q → AsksOnly q t → Leads t (bit_symbols bits) a → Fits contents adapted t (bit_symbols bits) at }
+        IsFlat contents adapted q → AsksOnly q t → Leads t (bit_symbols bits) a → Fits contents adapted t (bit_symbols bits) at.context }
     ensures tokens { (contents : C → Q → List ℕ) (adapted : C → Q → ℕ → C) (q : Q) (t : Syntax Q A) (bits : List Bool) (a : A) (c : C) →
         IsFlat contents adapted q → AsksOnly q t → Leads t (bit_symbols bits) a → tokens_along contents adapted t (bit_symbols bits) c ≡ flat_tokens bits }
     ensures context { (contents : C → Q → List ℕ) (adapted : C → Q → ℕ → C) (q : Q) (t : Syntax Q A) (symbols : List ℕ) (c : C) →

@@ -80,7 +80,7 @@ fn leave(precarry: &mut Vec<u16>, low: &mut u32, weight: &mut u32)
     ensures capacity { vec_capacity precarry.old ≤ vec_capacity precarry.new }
 {
     *weight -= 8;
-    let _ = precarry.push((*low >> *weight) as u16);
+    precarry.push_reserved((*low >> *weight) as u16);
     *low &= (1 << *weight) - 1;
 }
 

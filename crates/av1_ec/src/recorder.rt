@@ -1,11 +1,14 @@
 // The recorder: the tokens in order, and the range and how many bits were shifted out, as an encoder's.
 ghost use Rattle.std.specs.Prelude.{◌≡◌, ℕ, ◌+◌, ◌-◌, ◌^◌, ◌<◌, ◌≤◌, ◌++◌, ◌∷◌, [], IsOk, OnOk, OnErr, length, take, vec_len, vec_capacity};
-ghost use Rattle.av1_model.specs.Position.{advance_all};
+ghost use Rattle.av1_ec.specs.Recorder.{IsClearedIf, IsRecorded, IsRecording, recorder_position, token_in, tokens_at, tokens_in};
+ghost use Rattle.av1_model.specs.Interval.{IsToken};
 ghost use Rattle.av1_ec.specs.Checkpoint.{KeepsCheckpoints};
-ghost use Rattle.av1_ec.specs.Recorder.{IsRecorded, IsRecording, recorder_position, tokens_at, tokens_in};
+ghost use Rattle.av1_model.specs.Position.{advance, advance_all};
 ghost use Rattle.av1_ec.specs.RecorderLaw.{recording_valid};
+ghost use Rattle.av1_ec.specs.Storing.{HasBits, Keeps, StoresInTurn};
 ghost use Rattle.av1_ec.specs.declared.recorder.Recorded.{Recorded};
 
+use crate::known::Known;
 use crate::storage::{Storage, StorageBackend, Tally, WriterCheckpoint};
 use crate::writer_base::{WriterBase, lr_compute};
 use av1_geometry::OutOfMemory;
@@ -31,7 +34,7 @@ fn keep(storage: &mut Vec<Recorded>, fl: u16, fh: u16, nms: u16) -> Result<(), O
     if storage.len() == storage.capacity() {
         return keep_in_more_memory(storage, fl, fh, nms);
     }
-    let _ = storage.push(Recorded { fl, fh, nms });
+    storage.push_reserved(Recorded { fl, fh, nms });
     Ok(())
 }
 
@@ -69,7 +72,7 @@ impl Storage for WriterRecorder {
 impl WriterRecorder {
     /// A recorder that has no tokens. It takes no memory yet.
     pub fn new(alloc: Global) -> WriterBase<WriterRecorder>
-        ensures { ⟦<WriterBase<WriterRecorder> as StorageBackend>⟧.position result ≡ recorder_position [] 32768 0 0 }
+        ensures { ⟦<WriterBase<WriterRecorder> as Known>⟧.position result ≡ recorder_position [] 32768 0 0 }
     {
         WriterBase {
             rng: 32768,
@@ -83,29 +86,62 @@ impl WriterRecorder {
     }
 }
 
+// Stores a token into a writer of any kind.
+fn store_into(dest: &mut dyn StorageBackend, token: &Recorded) -> Result<(), OutOfMemory>
+    requires token { IsToken (token_in token.now) }
+    requires shift { (advance (position dest.old) (token_in token.now)).shift ≤ 2 ^ 28 + 2 ^ 24 }
+    ensures ok { OnOk result (position dest.new ≡ advance (position dest.old) (token_in token.now)) }
+    ensures err { OnErr result (position dest.new ≡ position dest.old) }
+    ensures room { 0 < spare dest.old → IsOk result }
+    ensures lowered { spare dest.old ≤ spare dest.new + 1 }
+    ensures kept { KeepsCheckpoints stored IsReached position_at dest.old dest.new }
+{
+    dest.store(token.fl, token.fh, token.nms)
+}
+
 impl WriterBase<WriterRecorder> {
     /// Stores the tokens into another writer, in order, and leaves the recorder as a new one, but with its fake bits. A
     /// refusal leaves the recorder whole, and has stored a beginning of the tokens.
-    pub fn replay<D: StorageBackend>(&mut self, dest: &mut D) -> Result<(), OutOfMemory>
-        requires shift { let ts = tokens_at (⟦<WriterBase<WriterRecorder> as StorageBackend>⟧.position self.old) in (advance_all (D.position dest.old) ts).shift ≤ 2 ^ 28 + 2 ^ 24 }
-        ensures ok { let ts = tokens_at (⟦<WriterBase<WriterRecorder> as StorageBackend>⟧.position self.old) in OnOk result (D.position dest.new ≡ advance_all (D.position dest.old) ts) }
-        ensures cleared { let position = ⟦<WriterBase<WriterRecorder> as StorageBackend>⟧.position in OnOk result (position self.new ≡ recorder_position [] 32768 0 (position self.old).fake) }
-        ensures err { let ts = tokens_at (⟦<WriterBase<WriterRecorder> as StorageBackend>⟧.position self.old) in OnErr result ((n : ℕ) × (n < length ts) × (D.position dest.new ≡ advance_all (D.position dest.old) (take n ts))) }
+    pub fn replay(&mut self, dest: &mut dyn StorageBackend) -> Result<(), OutOfMemory>
+        requires { let ts = tokens_at (⟦<WriterBase<WriterRecorder> as Known>⟧.position self.old) in (advance_all (position dest.old) ts).shift ≤ 2 ^ 28 + 2 ^ 24 }
+        ensures stored { let ts = tokens_at (⟦<WriterBase<WriterRecorder> as Known>⟧.position self.old) in StoresInTurn position spare ts result dest.old dest.new }
+        ensures kept { KeepsCheckpoints stored IsReached position_at dest.old dest.new }
+        ensures cleared { IsClearedIf result (⟦<WriterBase<WriterRecorder> as Known>⟧.position self.old) (⟦<WriterBase<WriterRecorder> as Known>⟧.position self.new) }
         ensures whole { OnErr result (self.new ≡ self.old) }
-        ensures room { length (tokens_at (⟦<WriterBase<WriterRecorder> as StorageBackend>⟧.position self.old)) ≤ D.spare dest.old → IsOk result }
-        ensures kept { KeepsCheckpoints D.stored D.IsReached D.position_at dest.old dest.new }
     {
         for token in &self.s.storage {
-            dest.store(token.fl, token.fh, token.nms)?;
+            store_into(dest, token)?;
         }
+        self.begin_anew();
+        Ok(())
+    }
+
+    /// `replay` into a writer whose kind is known, so that each of its calls is direct.
+    pub fn replay_into<D: StorageBackend>(&mut self, dest: &mut D) -> Result<(), OutOfMemory>
+        requires { HasBits D.Known dest.old (tokens_at (⟦<WriterBase<WriterRecorder> as Known>⟧.position self.old)) }
+        ensures stored { let ts = tokens_at (⟦<WriterBase<WriterRecorder> as Known>⟧.position self.old) in StoresInTurn D.position D.spare ts result dest.old dest.new }
+        ensures kept { Keeps D.Known dest.old dest.new }
+        ensures cleared { IsClearedIf result (⟦<WriterBase<WriterRecorder> as Known>⟧.position self.old) (⟦<WriterBase<WriterRecorder> as Known>⟧.position self.new) }
+        ensures whole { OnErr result (self.new ≡ self.old) }
+    {
+        for recorded in &self.s.storage {
+            dest.store(recorded.fl, recorded.fh, recorded.nms)?;
+        }
+        self.begin_anew();
+        Ok(())
+    }
+
+    // Leaves it as a new one, but with its fake bits.
+    fn begin_anew(&mut self)
+        ensures { let position = ⟦<WriterBase<WriterRecorder> as Known>⟧.position in position self.new ≡ recorder_position [] 32768 0 (position self.old).fake }
+    {
         self.s.storage.clear();
         self.s.bits = 0;
         self.rng = 32768;
-        Ok(())
     }
 }
 
-impl StorageBackend for WriterBase<WriterRecorder> {
+impl Known for WriterBase<WriterRecorder> {
     ghost position = { λ w. recorder_position (tokens_in w.s.storage.items) w.rng w.s.bits w.fake_bits_frac };
 
     ghost spare = { λ w. vec_capacity w.s.storage - vec_len w.s.storage };
@@ -115,7 +151,9 @@ impl StorageBackend for WriterBase<WriterRecorder> {
     ghost IsReached = { λ w c. IsRecorded (tokens_in w.s.storage.items) c };
 
     ghost position_at = { λ w c. recorder_position (take c.stream_size (tokens_in w.s.storage.items)) c.rng c.backend_var w.fake_bits_frac };
+}
 
+impl StorageBackend for WriterBase<WriterRecorder> {
     #[inline(always)]
     fn store(&mut self, fl: u16, fh: u16, nms: u16) -> Result<(), OutOfMemory> {
         let (_, width) = lr_compute(self.rng, fl, fh, nms);
@@ -170,6 +208,3 @@ impl StorageBackend for WriterBase<WriterRecorder> {
 
     ghost valid = { λ w. recording_valid (tokens_in w.s.storage.items) w.rng w.s.bits w.fake_bits_frac w.window w.fake };
 }
-
-#[cfg(test)]
-mod tests;

@@ -1,14 +1,15 @@
 // What differs from one writer to another.
-ghost use Rattle.std.specs.Prelude.{◌≡◌, ℕ, ℤ, ◌+◌, ◌^◌, ◌<◌, ◌≤◌, IsOk, OnOk, OnErr};
+ghost use Rattle.std.specs.Prelude.{◌≡◌, ℕ, ℤ, ◌+◌, ◌^◌, ◌≤◌, [], ◌∷◌, IsOk, OnOk};
 ghost use Rattle.av1_model.specs.Interval.{IsToken};
-ghost use Rattle.av1_model.specs.Position.{Position, advance};
-ghost use Rattle.av1_ec.specs.Checkpoint.{reach, KeepsCheckpoints};
+ghost use Rattle.av1_ec.specs.Checkpoint.{reach};
+ghost use Rattle.av1_ec.specs.Storing.{HasBits, Keeps, StoresAll};
 ghost use Rattle.av1_ec.specs.Writing.{IsPosition, stream_bits_at, with_fake};
 
+use crate::known::Known;
 use av1_geometry::OutOfMemory;
 
-/// What a writer keeps beside its range, its count and its fake bits. A storage of another kind gives its `GoesWith`
-/// here, and its calls in an impl of `StorageBackend` for the `WriterBase` over it.
+/// What a writer keeps beside its range, its count and its fake bits: this crate's three kinds, each with its calls in an impl of
+/// `StorageBackend` for the `WriterBase` over it.
 pub trait Storage {
     /// Which range and count go with what is stored.
     ghost GoesWith: { Self → ℕ → ℤ → Type 0 };
@@ -40,80 +41,61 @@ pub struct WriterCheckpoint {
 }
 
 /// A writer by its storage, as rav1e's `StorageBackend` of `src/ec.rs`: an encoder, a recorder or a counter.
-pub trait StorageBackend {
+pub trait StorageBackend: Known {
     ghost use Rattle.av1_ec.specs.declared.storage.WriterCheckpoint.{WriterCheckpoint};
-
-    /// What is known of the writer: range, shift, fake bits, an encoder's low end, a recorder's tokens.
-    ghost position: { Self → Position };
-
-    /// How many tokens fit before more memory is needed.
-    ghost spare: { Self → ℕ };
-
-    /// How much is stored.
-    ghost stored: { Self → ℕ };
-
-    /// What was stored at the checkpoint is still there, and stands for a position together with its numbers.
-    ghost IsReached: { Self → WriterCheckpoint → Type 0 };
-
-    /// This position, with the fake bits of now.
-    ghost position_at: { Self → WriterCheckpoint → Position };
 
     /// Stores the token of a symbol, whose part of 32768 goes from `fl` (32768 for the first symbol) down to `fh`, and
     /// which is followed by `nms` - 1 symbols. A refusal leaves the position as it was.
     fn store(&mut self, fl: u16, fh: u16, nms: u16) -> Result<(), OutOfMemory>
         requires token { IsToken record { fl = fl; fh = fh; nms = nms } }
-        requires shift { (advance (position self.old) record { fl = fl; fh = fh; nms = nms }).shift ≤ 2 ^ 28 + 2 ^ 24 }
-        ensures ok { OnOk result (position self.new ≡ advance (position self.old) record { fl = fl; fh = fh; nms = nms }) }
-        ensures err { OnErr result (position self.new ≡ position self.old) }
-        ensures room { 0 < spare self.old → IsOk result }
-        ensures spare { spare self.old ≤ spare self.new + 1 }
-        ensures kept { KeepsCheckpoints stored IsReached position_at self.old self.new };
+        requires shift { HasBits Self.Known self.old (record { fl = fl; fh = fh; nms = nms } ∷ []) }
+        ensures { StoresAll Self.Known 1 (record { fl = fl; fh = fh; nms = nms } ∷ []) result self.old self.new };
 
     /// Makes room for this many tokens, so that as many stores cannot fail. Where the room is there it does not fail. The
     /// position stays, also on a refusal.
     fn ready(&mut self, tokens: usize) -> Result<(), OutOfMemory>
-        ensures same { position self.new ≡ position self.old }
-        ensures ready { OnOk result (tokens ≤ spare self.new) }
-        ensures room { tokens ≤ spare self.old → IsOk result }
-        ensures spare { spare self.old ≤ spare self.new }
-        ensures kept { KeepsCheckpoints stored IsReached position_at self.old self.new };
+        ensures same { Self.position self.new ≡ Self.position self.old }
+        ensures ready { OnOk result (tokens ≤ Self.spare self.new) }
+        ensures room { tokens ≤ Self.spare self.old → IsOk result }
+        ensures spare { Self.spare self.old ≤ Self.spare self.new }
+        ensures kept { Keeps Self.Known self.old self.new };
 
     /// How far the writer has come.
     fn tally(&self) -> Tally
-        ensures rng { result.rng ≡ (position self.now).range }
-        ensures bits { result.bits ≡ (position self.now).shift }
-        ensures fake { result.fake_bits_frac ≡ (position self.now).fake };
+        ensures rng { result.rng ≡ (Self.position self.now).range }
+        ensures bits { result.bits ≡ (Self.position self.now).shift }
+        ensures fake { result.fake_bits_frac ≡ (Self.position self.now).fake };
 
     /// A checkpoint of now.
     fn checkpoint(&self) -> WriterCheckpoint
-        ensures reached { IsReached self.now result }
-        ensures reach { reach result ≡ stored self.now }
-        ensures position { position_at self.now result ≡ position self.now };
+        ensures reached { Self.IsReached self.now result }
+        ensures reach { reach result ≡ Self.stored self.now }
+        ensures position { Self.position_at self.now result ≡ Self.position self.now };
 
     /// Goes back to a checkpoint, except that the fake bits stay. Each checkpoint before it, which reaches no further, stands
     /// for what it stood for.
     fn rollback(&mut self, checkpoint: &WriterCheckpoint)
-        requires { IsReached self.old checkpoint.now }
-        ensures position { position self.new ≡ position_at self.old checkpoint.now }
-        ensures fake { (position self.new).fake ≡ (position self.old).fake }
-        ensures spare { spare self.old ≤ spare self.new }
-        ensures stored { stored self.new ≡ reach checkpoint.now }
-        ensures reached { (c : WriterCheckpoint) → reach c ≤ reach checkpoint.now → IsReached self.old c → IsReached self.new c }
-        ensures kept { (c : WriterCheckpoint) → reach c ≤ reach checkpoint.now → IsReached self.old c → position_at self.new c ≡ position_at self.old c };
+        requires { Self.IsReached self.old checkpoint.now }
+        ensures position { Self.position self.new ≡ Self.position_at self.old checkpoint.now }
+        ensures fake { (Self.position self.new).fake ≡ (Self.position self.old).fake }
+        ensures spare { Self.spare self.old ≤ Self.spare self.new }
+        ensures stored { Self.stored self.new ≡ reach checkpoint.now }
+        ensures reached { (c : WriterCheckpoint) → reach c ≤ reach checkpoint.now → Self.IsReached self.old c → Self.IsReached self.new c }
+        ensures kept { (c : WriterCheckpoint) → reach c ≤ reach checkpoint.now → Self.IsReached self.old c → Self.position_at self.new c ≡ Self.position_at self.old c };
 
     /// How many bits are in the stored stream: an encoder's whole bytes, all bits of another writer.
     fn stream_bits(&self) -> usize
-        ensures { result ≡ stream_bits_at (position self.now) };
+        ensures { result ≡ stream_bits_at (Self.position self.now) };
 
     /// Adds fake bits, in 256ths of a bit, which `rollback` leaves. What a checkpoint stands for has them too.
     fn add_bits_frac(&mut self, bits_frac: u32)
-        requires { (position self.old).fake + bits_frac ≤ 2 ^ 28 }
-        ensures position { position self.new ≡ with_fake (position self.old) bits_frac }
-        ensures spare { spare self.new ≡ spare self.old }
-        ensures stored { stored self.new ≡ stored self.old }
-        ensures reached { (c : WriterCheckpoint) → IsReached self.old c → IsReached self.new c }
-        ensures kept { (c : WriterCheckpoint) → position_at self.new c ≡ with_fake (position_at self.old c) bits_frac };
+        requires { (Self.position self.old).fake + bits_frac ≤ 2 ^ 28 }
+        ensures position { Self.position self.new ≡ with_fake (Self.position self.old) bits_frac }
+        ensures spare { Self.spare self.new ≡ Self.spare self.old }
+        ensures stored { Self.stored self.new ≡ Self.stored self.old }
+        ensures reached { (c : WriterCheckpoint) → Self.IsReached self.old c → Self.IsReached self.new c }
+        ensures kept { (c : WriterCheckpoint) → Self.position_at self.new c ≡ with_fake (Self.position_at self.old c) bits_frac };
 
     /// Every writer's interval is valid.
-    ghost valid: { (w : Self) → IsPosition (position w) };
+    ghost valid: { (w : Self) → IsPosition (Self.position w) };
 }

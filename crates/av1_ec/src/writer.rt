@@ -1,17 +1,17 @@
 // The calls that are the same for every storage.
-ghost use Rattle.std.specs.Prelude.{◌≡◌, ℕ, ◌+◌, ◌*◌, ◌^◌, ◌<◌, ◌≤◌, length, nat_eq, max, pos, ◌-ℤ◌, ◌≤ℤ◌, ◌<ℤ◌, IsOk, OnOk, OnErr};
-ghost use Rattle.av1_cdf.specs.Context.{contents, with_contents};
-ghost use Rattle.av1_cdf.specs.Log.{KeepsUndone, saves_of, spare as log_spare};
+ghost use Rattle.std.specs.Prelude.{◌≡◌, ℕ, ◌+◌, ◌*◌, ◌^◌, ◌<◌, ◌≤◌, [], ◌∷◌, length, nat_eq, max, pos, ◌-ℤ◌, ◌≤ℤ◌, ◌<ℤ◌};
+ghost use Rattle.av1_cdf.specs.Context.{contents};
 ghost use Rattle.av1_cdf.specs.Slots.{slot_of};
 ghost use Rattle.av1_codes.specs.Codes.{golomb, refsubexp_between};
 ghost use Rattle.av1_ec.specs.Flat.{bool_token, flat_tokens};
 ghost use Rattle.av1_model.specs.Bits.{bits_of};
 ghost use Rattle.av1_model.specs.Codes.{quniform, subexp, refsubexp};
-ghost use Rattle.av1_model.specs.Cdf.{IsCdf, adapt, token_of};
+ghost use Rattle.av1_model.specs.Cdf.{IsCdf, token_of};
 ghost use Rattle.av1_model.specs.Eighths.{eighths};
 ghost use Rattle.av1_model.specs.Interval.{narrow};
-ghost use Rattle.av1_model.specs.Position.{Position, advance, advance_all, interval_of};
-ghost use Rattle.av1_ec.specs.Checkpoint.{reach, KeepsCheckpoints};
+ghost use Rattle.av1_model.specs.Position.{interval_of};
+ghost use Rattle.av1_ec.specs.Checkpoint.{reach};
+ghost use Rattle.av1_ec.specs.Storing.{HasBits, Keeps, Learns, StoresAll};
 ghost use Rattle.av1_ec.specs.declared.storage.WriterCheckpoint.{WriterCheckpoint};
 ghost use Rattle.av1_ec.specs.Rate.{tell_at, tell_frac_at};
 ghost use Rattle.av1_ec.specs.Writing.{IsPosition, with_fake};
@@ -20,40 +20,23 @@ ghost use Rattle.std.proofs.Common.{rules};
 use crate::adaptive::store_and_adapt;
 use crate::flat::store_word;
 use crate::frac::{log_eighths, symbol_eighths};
+use crate::known::Known;
 use crate::storage::{Storage, StorageBackend, WriterCheckpoint};
-use crate::writer_base::{WriterBase, token};
+use crate::symbol::store_symbol;
+use crate::writer_base::WriterBase;
 use av1_cdf::{CDFContext, CDFContextLog, CDFOffset};
 use av1_codes::{Word, golomb_word, quniform_word, refsubexp_word, signed_word, subexp_word};
 use av1_geometry::OutOfMemory;
 
 /// A writer of symbols, as rav1e's `Writer` of `src/ec.rs`.
-pub trait Writer {
-    /// What is known of the writer: range, shift, fake bits, an encoder's low end, a recorder's tokens.
-    ghost position: { Self → Position };
-
-    /// How many symbols fit before more memory is needed.
-    ghost spare: { Self → ℕ };
-
-    /// How much is stored.
-    ghost stored: { Self → ℕ };
-
-    /// What was stored at the checkpoint is still there, and stands for a position together with its numbers.
-    ghost IsReached: { Self → WriterCheckpoint → Type 0 };
-
-    /// This position, with the fake bits of now.
-    ghost position_at: { Self → WriterCheckpoint → Position };
-
+pub trait Writer: Known {
     /// Codes symbol `s` by a CDF of as many symbols as it has numbers, of which the last is the count. The CDF stays as
     /// it is. A refusal leaves the position as it was.
     fn symbol(&mut self, s: u32, cdf: &[u16]) -> Result<(), OutOfMemory>
         requires cdf { IsCdf cdf.now }
         requires s { s < length cdf.now }
-        requires shift { (advance (position self.old) (token_of cdf.now s)).shift ≤ 2 ^ 28 + 2 ^ 24 }
-        ensures ok { OnOk result (position self.new ≡ advance (position self.old) (token_of cdf.now s)) }
-        ensures err { OnErr result (position self.new ≡ position self.old) }
-        ensures room { 0 < spare self.old → IsOk result }
-        ensures spare { spare self.old ≤ spare self.new + 1 }
-        ensures kept { KeepsCheckpoints stored IsReached position_at self.old self.new };
+        requires shift { HasBits Self.Known self.old (token_of cdf.now s ∷ []) }
+        ensures { StoresAll Self.Known 1 (token_of cdf.now s ∷ []) result self.old self.new };
 
     /// Codes symbol `s` by a CDF of a context, which then learns from it, and saves in the log what the CDF was. The other
     /// CDFs stay. A refusal leaves the position, the context and the log's saves as they were.
@@ -66,82 +49,49 @@ pub trait Writer {
     ) -> Result<(), OutOfMemory>
         requires cdf { IsCdf (contents fc.old (slot_of cdf)) }
         requires s { s < cdf.len }
-        requires shift { (advance (position self.old) (token_of (contents fc.old (slot_of cdf)) s)).shift ≤ 2 ^ 28 + 2 ^ 24 }
-        ensures ok { OnOk result (position self.new ≡ advance (position self.old) (token_of (contents fc.old (slot_of cdf)) s)) }
-        ensures err { OnErr result (position self.new ≡ position self.old) }
-        ensures adapted { OnOk result (fc.new ≡ with_contents fc.old (slot_of cdf) (adapt (contents fc.old (slot_of cdf)) s)) }
-        ensures same { OnErr result (fc.new ≡ fc.old) }
-        ensures undone { OnOk result (KeepsUndone log.old log.new fc.old fc.new) }
-        ensures unsaved { OnErr result (saves_of log.new ≡ saves_of log.old) }
-        ensures room { 0 < spare self.old → 0 < log_spare log.old → IsOk result }
-        ensures spare { spare self.old ≤ spare self.new + 1 }
-        ensures log_spare { log_spare log.old ≤ log_spare log.new + 1 }
-        ensures kept { KeepsCheckpoints stored IsReached position_at self.old self.new };
+        requires shift { HasBits Self.Known self.old (token_of (contents fc.old (slot_of cdf)) s ∷ []) }
+        ensures { Learns Self.Known (slot_of cdf) s result self.old self.new log.old log.new fc.old fc.new };
 
     /// Codes a bool that is true `f` times in 32768. A refusal leaves the position as it was.
     fn bool(&mut self, val: bool, f: u16) -> Result<(), OutOfMemory>
         requires some { 0 < f }
         requires not_all { f < 32768 }
-        requires shift { (advance (position self.old) (bool_token f val)).shift ≤ 2 ^ 28 + 2 ^ 24 }
-        ensures ok { OnOk result (position self.new ≡ advance (position self.old) (bool_token f val)) }
-        ensures err { OnErr result (position self.new ≡ position self.old) }
-        ensures room { 0 < spare self.old → IsOk result }
-        ensures spare { spare self.old ≤ spare self.new + 1 }
-        ensures kept { KeepsCheckpoints stored IsReached position_at self.old self.new };
+        requires shift { HasBits Self.Known self.old (bool_token f val ∷ []) }
+        ensures { StoresAll Self.Known 1 (bool_token f val ∷ []) result self.old self.new };
 
     /// Codes a bit that is as likely as not, 0 or 1. A refusal leaves the position as it was.
     fn bit(&mut self, bit: u16) -> Result<(), OutOfMemory>
         requires bit { bit ≤ 1 }
-        requires shift { (advance (position self.old) (bool_token 16384 (nat_eq bit 1))).shift ≤ 2 ^ 28 + 2 ^ 24 }
-        ensures ok { OnOk result (position self.new ≡ advance (position self.old) (bool_token 16384 (nat_eq bit 1))) }
-        ensures err { OnErr result (position self.new ≡ position self.old) }
-        ensures room { 0 < spare self.old → IsOk result }
-        ensures spare { spare self.old ≤ spare self.new + 1 }
-        ensures kept { KeepsCheckpoints stored IsReached position_at self.old self.new };
+        requires shift { HasBits Self.Known self.old (bool_token 16384 (nat_eq bit 1) ∷ []) }
+        ensures { StoresAll Self.Known 1 (bool_token 16384 (nat_eq bit 1) ∷ []) result self.old self.new };
 
     /// Codes the `bits` lowest bits of `s`, at most 32, the highest first, all or none.
     fn literal(&mut self, bits: u8, s: u32) -> Result<(), OutOfMemory>
         requires bits { bits ≤ 32 }
         requires fits { s < 2 ^ bits }
-        requires shift { (advance_all (position self.old) (flat_tokens (bits_of bits s))).shift ≤ 2 ^ 28 + 2 ^ 24 }
-        ensures ok { OnOk result (position self.new ≡ advance_all (position self.old) (flat_tokens (bits_of bits s))) }
-        ensures err { OnErr result (position self.new ≡ position self.old) }
-        ensures room { bits ≤ spare self.old → IsOk result }
-        ensures spare { spare self.old ≤ spare self.new + bits }
-        ensures kept { KeepsCheckpoints stored IsReached position_at self.old self.new };
+        requires shift { HasBits Self.Known self.old (flat_tokens (bits_of bits s)) }
+        ensures { StoresAll Self.Known bits (flat_tokens (bits_of bits s)) result self.old self.new };
 
     /// Codes `level` in the Exp-Golomb code, all or none.
     fn write_golomb(&mut self, level: u32) -> Result<(), OutOfMemory>
         requires level { level + 1 < 2 ^ 32 }
-        requires shift { (advance_all (position self.old) (flat_tokens (golomb level))).shift ≤ 2 ^ 28 + 2 ^ 24 }
-        ensures ok { OnOk result (position self.new ≡ advance_all (position self.old) (flat_tokens (golomb level))) }
-        ensures err { OnErr result (position self.new ≡ position self.old) }
-        ensures room { length (golomb level) ≤ spare self.old → IsOk result }
-        ensures spare { spare self.old ≤ spare self.new + length (golomb level) }
-        ensures kept { KeepsCheckpoints stored IsReached position_at self.old self.new };
+        requires shift { HasBits Self.Known self.old (flat_tokens (golomb level)) }
+        ensures { StoresAll Self.Known (length (golomb level)) (flat_tokens (golomb level)) result self.old self.new };
 
     /// Codes `v`, one of `n` values, in the quasi-uniform code, all or none: NS(n) of the AV1 specification.
     fn write_quniform(&mut self, n: u32, v: u32) -> Result<(), OutOfMemory>
         requires value { v < max n 1 }
         requires few { n ≤ 2 ^ 24 }
-        requires shift { (advance_all (position self.old) (flat_tokens (quniform n v))).shift ≤ 2 ^ 28 + 2 ^ 24 }
-        ensures ok { OnOk result (position self.new ≡ advance_all (position self.old) (flat_tokens (quniform n v))) }
-        ensures err { OnErr result (position self.new ≡ position self.old) }
-        ensures room { length (quniform n v) ≤ spare self.old → IsOk result }
-        ensures spare { spare self.old ≤ spare self.new + length (quniform n v) }
-        ensures kept { KeepsCheckpoints stored IsReached position_at self.old self.new };
+        requires shift { HasBits Self.Known self.old (flat_tokens (quniform n v)) }
+        ensures { StoresAll Self.Known (length (quniform n v)) (flat_tokens (quniform n v)) result self.old self.new };
 
     /// Codes `v`, one of `n` values, in the subexponential code with first width `k`, all or none.
     fn write_subexp(&mut self, n: u32, k: u8, v: u32) -> Result<(), OutOfMemory>
         requires value { v < n }
         requires few { n ≤ 2 ^ 24 }
         requires width { k ≤ 16 }
-        requires shift { (advance_all (position self.old) (flat_tokens (subexp n k v))).shift ≤ 2 ^ 28 + 2 ^ 24 }
-        ensures ok { OnOk result (position self.new ≡ advance_all (position self.old) (flat_tokens (subexp n k v))) }
-        ensures err { OnErr result (position self.new ≡ position self.old) }
-        ensures room { length (subexp n k v) ≤ spare self.old → IsOk result }
-        ensures spare { spare self.old ≤ spare self.new + length (subexp n k v) }
-        ensures kept { KeepsCheckpoints stored IsReached position_at self.old self.new };
+        requires shift { HasBits Self.Known self.old (flat_tokens (subexp n k v)) }
+        ensures { StoresAll Self.Known (length (subexp n k v)) (flat_tokens (subexp n k v)) result self.old self.new };
 
     /// Codes `v`, one of `mx` values, by its distance from `r` in the subexponential code, all or none.
     fn write_unsigned_subexp_with_ref(
@@ -155,12 +105,8 @@ pub trait Writer {
         requires reference { r < mx }
         requires few { mx ≤ 2 ^ 24 }
         requires width { k ≤ 16 }
-        requires shift { (advance_all (position self.old) (flat_tokens (refsubexp mx k r v))).shift ≤ 2 ^ 28 + 2 ^ 24 }
-        ensures ok { OnOk result (position self.new ≡ advance_all (position self.old) (flat_tokens (refsubexp mx k r v))) }
-        ensures err { OnErr result (position self.new ≡ position self.old) }
-        ensures room { length (refsubexp mx k r v) ≤ spare self.old → IsOk result }
-        ensures spare { spare self.old ≤ spare self.new + length (refsubexp mx k r v) }
-        ensures kept { KeepsCheckpoints stored IsReached position_at self.old self.new };
+        requires shift { HasBits Self.Known self.old (flat_tokens (refsubexp mx k r v)) }
+        ensures { StoresAll Self.Known (length (refsubexp mx k r v)) (flat_tokens (refsubexp mx k r v)) result self.old self.new };
 
     /// Codes `v`, a number from `low` on and below `high`, by its distance from `r` in the subexponential code, all or none.
     fn write_signed_subexp_with_ref(
@@ -177,12 +123,8 @@ pub trait Writer {
         requires reference_to { r <ℤ high }
         requires few { (high -ℤ low) ≤ℤ pos (2 ^ 24) }
         requires width { k ≤ 16 }
-        requires shift { (advance_all (position self.old) (flat_tokens (refsubexp_between low high k r v))).shift ≤ 2 ^ 28 + 2 ^ 24 }
-        ensures ok { OnOk result (position self.new ≡ advance_all (position self.old) (flat_tokens (refsubexp_between low high k r v))) }
-        ensures err { OnErr result (position self.new ≡ position self.old) }
-        ensures room { length (refsubexp_between low high k r v) ≤ spare self.old → IsOk result }
-        ensures spare { spare self.old ≤ spare self.new + length (refsubexp_between low high k r v) }
-        ensures kept { KeepsCheckpoints stored IsReached position_at self.old self.new };
+        requires shift { HasBits Self.Known self.old (flat_tokens (refsubexp_between low high k r v)) }
+        ensures { StoresAll Self.Known (length (refsubexp_between low high k r v)) (flat_tokens (refsubexp_between low high k r v)) result self.old self.new };
 
     /// What `write_quniform` takes, in eighths of a bit.
     fn count_quniform(&self, n: u32, v: u32) -> u32
@@ -218,67 +160,56 @@ pub trait Writer {
     /// How many bits the symbols take so far: those that were shifted out, one more, and the whole fake bits. It is at
     /// most 2^28 + 2^24 + 2^20 + 1.
     fn tell(&self) -> u32
-        ensures { result ≡ tell_at (position self.now) };
+        ensures { result ≡ tell_at (Self.position self.now) };
 
     /// A checkpoint of now.
     fn checkpoint(&self) -> WriterCheckpoint
-        ensures reached { IsReached self.now result }
-        ensures reach { reach result ≡ stored self.now }
-        ensures position { position_at self.now result ≡ position self.now };
+        ensures reached { Self.IsReached self.now result }
+        ensures reach { reach result ≡ Self.stored self.now }
+        ensures position { Self.position_at self.now result ≡ Self.position self.now };
 
     /// Goes back to a checkpoint, except that the fake bits stay. Each checkpoint before it, which reaches no further, stands
     /// for what it stood for.
     fn rollback(&mut self, checkpoint: &WriterCheckpoint)
-        requires { IsReached self.old checkpoint.now }
-        ensures position { position self.new ≡ position_at self.old checkpoint.now }
-        ensures fake { (position self.new).fake ≡ (position self.old).fake }
-        ensures spare { spare self.old ≤ spare self.new }
-        ensures stored { stored self.new ≡ reach checkpoint.now }
-        ensures reached { (c : WriterCheckpoint) → reach c ≤ reach checkpoint.now → IsReached self.old c → IsReached self.new c }
-        ensures kept { (c : WriterCheckpoint) → reach c ≤ reach checkpoint.now → IsReached self.old c → position_at self.new c ≡ position_at self.old c };
+        requires { Self.IsReached self.old checkpoint.now }
+        ensures position { Self.position self.new ≡ Self.position_at self.old checkpoint.now }
+        ensures fake { (Self.position self.new).fake ≡ (Self.position self.old).fake }
+        ensures spare { Self.spare self.old ≤ Self.spare self.new }
+        ensures stored { Self.stored self.new ≡ reach checkpoint.now }
+        ensures reached { (c : WriterCheckpoint) → reach c ≤ reach checkpoint.now → Self.IsReached self.old c → Self.IsReached self.new c }
+        ensures kept { (c : WriterCheckpoint) → reach c ≤ reach checkpoint.now → Self.IsReached self.old c → Self.position_at self.new c ≡ Self.position_at self.old c };
 
     /// How many eighths of a bit the symbols take so far. The fake bits are counted twice, whole ones as eighths and all of
     /// them as 256ths, as in rav1e.
     fn tell_frac(&self) -> u32
-        ensures { result ≡ tell_frac_at (position self.now) };
+        ensures { result ≡ tell_frac_at (Self.position self.now) };
 
     /// How many eighths of a bit symbol `s` would take here, by a CDF of as many symbols as it has numbers.
     fn symbol_bits(&self, s: u32, cdf: &[u16]) -> u32
         requires cdf { IsCdf cdf.now }
         requires s { s < length cdf.now }
-        ensures { let i = interval_of (position self.now) in eighths i + result ≡ eighths (narrow i (token_of cdf.now s)) };
+        ensures { let i = interval_of (Self.position self.now) in eighths i + result ≡ eighths (narrow i (token_of cdf.now s)) };
 
     /// Adds fake bits, in 256ths of a bit, which `rollback` leaves. What a checkpoint stands for has them too.
     fn add_bits_frac(&mut self, bits_frac: u32)
-        requires { (position self.old).fake + bits_frac ≤ 2 ^ 28 }
-        ensures position { position self.new ≡ with_fake (position self.old) bits_frac }
-        ensures spare { spare self.new ≡ spare self.old }
-        ensures stored { stored self.new ≡ stored self.old }
-        ensures reached { (c : WriterCheckpoint) → IsReached self.old c → IsReached self.new c }
-        ensures kept { (c : WriterCheckpoint) → position_at self.new c ≡ with_fake (position_at self.old c) bits_frac };
+        requires { (Self.position self.old).fake + bits_frac ≤ 2 ^ 28 }
+        ensures position { Self.position self.new ≡ with_fake (Self.position self.old) bits_frac }
+        ensures spare { Self.spare self.new ≡ Self.spare self.old }
+        ensures stored { Self.stored self.new ≡ Self.stored self.old }
+        ensures reached { (c : WriterCheckpoint) → Self.IsReached self.old c → Self.IsReached self.new c }
+        ensures kept { (c : WriterCheckpoint) → Self.position_at self.new c ≡ with_fake (Self.position_at self.old c) bits_frac };
 
     /// Every writer's interval is valid.
-    ghost valid: { (w : Self) → IsPosition (position w) };
+    ghost valid: { (w : Self) → IsPosition (Self.position w) };
 }
 
 impl<S: Storage> Writer for WriterBase<S>
 where
     WriterBase<S>: StorageBackend,
 {
-    ghost position = { λ w. ⟦<WriterBase<S> as StorageBackend>⟧.position w };
-
-    ghost spare = { λ w. ⟦<WriterBase<S> as StorageBackend>⟧.spare w };
-
-    ghost stored = { λ w. ⟦<WriterBase<S> as StorageBackend>⟧.stored w };
-
-    ghost IsReached = { λ w c. ⟦<WriterBase<S> as StorageBackend>⟧.IsReached w c };
-
-    ghost position_at = { λ w c. ⟦<WriterBase<S> as StorageBackend>⟧.position_at w c };
-
     #[inline(always)]
     fn symbol(&mut self, s: u32, cdf: &[u16]) -> Result<(), OutOfMemory> {
-        let (fl, fh, nms) = token(s as usize, cdf);
-        self.store(fl, fh, nms)
+        store_symbol(self, s, cdf)
     }
 
     #[inline(always)]

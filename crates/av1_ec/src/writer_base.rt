@@ -61,15 +61,38 @@ pub(crate) fn lr_compute(rng: u16, fl: u16, fh: u16, nms: u16) -> (u32, u16)
     ensures width { let t : Token = record { fl = fl; fh = fh; nms = nms } in result.1 ≡ top rng t - bottom rng t }
 {
     let r = u32::from(rng);
-    let u = if fl >= 32768 {
-        r
+    let v = (r >> 8) * (u32::from(fh) >> EC_PROB_SHIFT) >> (7 - EC_PROB_SHIFT);
+    if fl >= 32768 {
+        (0, (r - v - EC_MIN_PROB * u32::from(nms - 1)) as u16)
     } else {
-        ((r >> 8) * (u32::from(fl) >> EC_PROB_SHIFT) >> (7 - EC_PROB_SHIFT))
-            + EC_MIN_PROB * u32::from(nms)
-    };
-    let v = ((r >> 8) * (u32::from(fh) >> EC_PROB_SHIFT) >> (7 - EC_PROB_SHIFT))
-        + EC_MIN_PROB * u32::from(nms - 1);
-    (r - u, (u - v) as u16)
+        let u = (r >> 8) * (u32::from(fl) >> EC_PROB_SHIFT) >> (7 - EC_PROB_SHIFT);
+        (
+            r - u - EC_MIN_PROB * u32::from(nms),
+            (u - v + EC_MIN_PROB) as u16,
+        )
+    }
+}
+
+// The token of the first symbol.
+#[inline(always)]
+pub(crate) fn first_token(cdf: &[u16]) -> (u16, u16, u16)
+    requires cdf { IsCdf cdf.now }
+    ensures is { record { fl = result.0; fh = result.1; nms = result.2 } ≡ token_of cdf.now 0 }
+    ensures valid { IsToken record { fl = result.0; fh = result.1; nms = result.2 } }
+{
+    (32768, cdf[0], cdf.len() as u16)
+}
+
+// The token of a later symbol. The remainder is the number itself, and shows the compiler that the symbol is not the first.
+#[inline(always)]
+pub(crate) fn later_token(s: usize, cdf: &[u16]) -> (u16, u16, u16)
+    requires cdf { IsCdf cdf.now }
+    requires later { 0 < s }
+    requires s { s < length cdf.now }
+    ensures is { record { fl = result.0; fh = result.1; nms = result.2 } ≡ token_of cdf.now s }
+    ensures valid { IsToken record { fl = result.0; fh = result.1; nms = result.2 } }
+{
+    (cdf[s - 1] % 32768, cdf[s], (cdf.len() - s) as u16)
 }
 
 // The token of a symbol.

@@ -6,7 +6,7 @@ use Rattle.av1_geometry.specs.declared.block_size.BlockSize.{BlockSize}
 use Rattle.av1_geometry.specs.declared.block_tables.TheConstants.{SIZES_BY_SIDES, max_txsize_rect_lookup, size_group_lookup}
 use Rattle.av1_geometry.specs.declared.tx_size.TxSize.{TxSize}
 use Rattle.av1_geometry.specs.BlockSize.{number_of, with_sides}
-use Rattle.av1_geometry.specs.Lookup.{at_size}
+use Rattle.av1_geometry.proofs.Lookup.{at_size}
 use Rattle.av1_geometry.specs.BlockTables.{max_tx_size, size_group}
 
 pub largest_transform : (size : BlockSize) (d : TxSize) → get_or max_txsize_rect_lookup (number_of size) d ≡ max_tx_size size

@@ -1,6 +1,7 @@
 pub mod BlockSizes
 pub mod BlockTables
 pub mod Filling
+pub mod Lookup
 pub mod Numbered
 pub mod Numbers
 pub mod Offsets

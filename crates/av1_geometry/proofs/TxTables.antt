@@ -8,7 +8,7 @@ use Rattle.av1_geometry.specs.declared.tx_type.TheConstants.{ALL_TX_TYPES}
 use Rattle.av1_geometry.specs.declared.tx_tables.TheConstants.{num_tx_set, av1_tx_used, av1_tx_ind, sub_tx_size_map, tx_type_to_class}
 use Rattle.av1_geometry.specs.TxType.{tx_type_number, tx_set_number}
 use Rattle.av1_geometry.specs.TxSize.{tx_number}
-use Rattle.av1_geometry.specs.Lookup.{at_tx_size, at_type, at_set}
+use Rattle.av1_geometry.proofs.Lookup.{at_tx_size, at_type, at_set}
 use Rattle.av1_geometry.specs.TxTables.{coded_types, uses, index_in, class_of, half_size}
 
 pub half_of_size : (size : TxSize) (d : TxSize) → get_or sub_tx_size_map (tx_number size) d ≡ half_size size

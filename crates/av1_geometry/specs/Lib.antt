@@ -1,5 +1,4 @@
 pub mod BlockSize
-pub mod BlockSizeBounds
 pub mod BlockSizeOrder
 pub mod BlockTables
 pub mod Cfl
@@ -7,11 +6,11 @@ pub mod Chroma
 pub mod ChromaSampling
 pub mod CoefficientTables
 pub mod FrameType
-pub mod Lookup
 pub mod MotionVector
 pub mod PartitionType
 pub mod PredictionMode
 pub mod RefType
+pub mod Rules
 pub mod Segmentation
 pub mod Sides
 pub mod SidesOrder

@@ -202,4 +202,6 @@ pub fn law_block_offsets()
         ((a.0.x ≡ b.0.x) × (a.0.y ≡ b.0.y)) }
     ensures tile { (a b : TileBlockOffset) → IsTrue (⟦<TileBlockOffset as PartialEq>⟧.eq a b) ↔
         ((a.0.x ≡ b.0.x) × (a.0.y ≡ b.0.y)) }
+    ensures samples { (a b : PlaneOffset) → IsTrue (⟦<PlaneOffset as PartialEq>⟧.eq a b) ↔
+        ((a.x ≡ b.x) × (a.y ≡ b.y)) }
 {}

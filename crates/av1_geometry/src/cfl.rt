@@ -126,8 +126,7 @@ impl CFLParams {
 pub fn law_cfl()
     ensures joint { (a b : CFLSign) (joint : ℕ) → joint + 1 ≡ 3 * sign_number a + sign_number b →
         ((joint + 1) / 3 ≡ sign_number a) × ((joint + 1) % 3 ≡ sign_number b) }
-    ensures context { (a b : CFLSign) (context : ℕ) → 1 ≤ sign_number a →
-        context + 3 ≡ 3 * sign_number a + sign_number b →
-        (context / 3 + 1 ≡ sign_number a) × (context % 3 ≡ sign_number b) }
+    ensures context { (a b : CFLSign) (n : ℕ) → 1 ≤ sign_number a → n + 3 ≡ 3 * sign_number a + sign_number b →
+        (n / 3 + 1 ≡ sign_number a) × (n % 3 ≡ sign_number b) }
     ensures factor { (a : ℤ) → signed (sign_of a) (magnitude a) ≡ a }
 {}

@@ -1,5 +1,6 @@
 // The numbers that rav1e's files of the context share. Where one follows from others, it is written by them.
 ghost use Rattle.std.specs.Prelude.{◌≡◌, [], ◌∷◌, ◌++◌, pos, negsuc, replicate, map, slice_index};
+ghost use Rattle.av1_geometry.specs.declared.tx_size.TheConstants.TxSize.{TX_SIZES};
 
 // Planes, modes and contexts of a block (src/context/block_unit.rs).
 
@@ -268,24 +269,29 @@ pub const SGRPROJ_RADII: [[u8; 2]; 16] = [
 /// The values of the constants, those that are written by others too.
 pub fn law_constants()
     ensures of_1 { IMPORTANCE_BLOCK_TO_BLOCK_SHIFT ∷ GLOBALMV_CTX_MASK ∷ [] ≡ replicate 2 1 }
-    ensures of_2 { PLANE_TYPES ∷ MI_SIZE_LOG2 ∷ BLOCK_TO_PLANE_SHIFT ∷ NUM_BASE_LEVELS ∷ TX_PAD_HOR_LOG2 ∷
-        TX_PAD_TOP ∷ GLOBALMV_MODE_CONTEXTS ∷ PALETTE_UV_MODE_CONTEXTS ∷ MAX_TX_DEPTH ∷
-        [] ≡ replicate 9 2 }
+    ensures of_2 { PLANE_TYPES ∷ MI_SIZE_LOG2 ∷ BLOCK_TO_PLANE_SHIFT ∷ NUM_BASE_LEVELS ∷
+        TX_PAD_HOR_LOG2 ∷ [] ≡ replicate 5 2 }
+    ensures of_2_last { TX_PAD_TOP ∷ GLOBALMV_MODE_CONTEXTS ∷ PALETTE_UV_MODE_CONTEXTS ∷
+        MAX_TX_DEPTH ∷ [] ≡ replicate 4 2 }
     ensures of_3 { MAX_PLANES ∷ MAX_ANGLE_DELTA ∷ DRL_MODE_CONTEXTS ∷ UNI_COMP_REF_CONTEXTS ∷
-        DELTA_LF_PROBS ∷ DELTA_Q_PROBS ∷ SKIP_CONTEXTS ∷ SKIP_MODE_CONTEXTS ∷ TX_SETS_INTRA ∷
-        DC_SIGN_CONTEXTS ∷ BWD_REFS ∷ REF_CONTEXTS ∷ PALETTE_Y_MODE_CONTEXTS ∷
-        TX_SIZE_CONTEXTS ∷ BIG_TX_CATS ∷ MVREF_ROW_COLS ∷ REF_FRAMES_LOG2 ∷ GLOBALMV_OFFSET ∷
-        [] ≡ replicate 18 3 }
+        DELTA_LF_PROBS ∷ DELTA_Q_PROBS ∷ [] ≡ replicate 6 3 }
+    ensures of_3_next { SKIP_CONTEXTS ∷ SKIP_MODE_CONTEXTS ∷ TX_SETS_INTRA ∷ DC_SIGN_CONTEXTS ∷
+        BWD_REFS ∷ REF_CONTEXTS ∷ [] ≡ replicate 6 3 }
+    ensures of_3_last { PALETTE_Y_MODE_CONTEXTS ∷ TX_SIZE_CONTEXTS ∷ BIG_TX_CATS ∷ MVREF_ROW_COLS ∷
+        REF_FRAMES_LOG2 ∷ GLOBALMV_OFFSET ∷ [] ≡ replicate 6 3 }
     ensures of_4 { BLOCK_SIZE_GROUPS ∷ INTRA_INTER_CONTEXTS ∷ FRAME_LF_COUNT ∷ PARTITION_PLOFFSET ∷
-        PARTITION_TYPES ∷ MI_SIZE ∷ MIB_SIZE_LOG2 ∷ SUPERBLOCK_TO_BLOCK_SHIFT ∷
-        TX_SIZE_SQR_CONTEXTS ∷ TX_SETS_INTER ∷ SIG_COEF_CONTEXTS_EOB ∷ BR_CDF_SIZE ∷
-        TX_PAD_HOR ∷ TX_PAD_BOTTOM ∷ FWD_REFS ∷ MAX_TX_CATS ∷ MV_JOINTS ∷ REFMV_OFFSET ∷
-        [] ≡ replicate 18 4 }
+        PARTITION_TYPES ∷ MI_SIZE ∷ [] ≡ replicate 6 4 }
+    ensures of_4_next { MIB_SIZE_LOG2 ∷ SUPERBLOCK_TO_BLOCK_SHIFT ∷ TX_SIZE_SQR_CONTEXTS ∷
+        TX_SETS_INTER ∷ SIG_COEF_CONTEXTS_EOB ∷ BR_CDF_SIZE ∷ [] ≡ replicate 6 4 }
+    ensures of_4_last { TX_PAD_HOR ∷ TX_PAD_BOTTOM ∷ FWD_REFS ∷ MAX_TX_CATS ∷ MV_JOINTS ∷
+        REFMV_OFFSET ∷ [] ≡ replicate 6 4 }
+    ensures tx_sizes { TX_SIZES ≡ 5 }
     ensures of_5 { KF_MODE_CONTEXTS ∷ COMP_INTER_CONTEXTS ∷ COMP_REF_TYPE_CONTEXTS ∷ PARTITION_BLOCK_SIZES ∷
         MAX_MIB_SIZE_LOG2 ∷ [] ≡ replicate 5 5 }
     ensures of_6 { COMP_INDEX_CONTEXTS ∷ COMP_GROUP_IDX_CONTEXTS ∷ CFL_ALPHA_CONTEXTS ∷
-        SUPERBLOCK_TO_PLANE_SHIFT ∷ TX_SETS ∷ COEFF_CONTEXT_BITS ∷ TX_PAD_VER ∷
-        NEWMV_MODE_CONTEXTS ∷ REFMV_MODE_CONTEXTS ∷ [] ≡ replicate 9 6 }
+        SUPERBLOCK_TO_PLANE_SHIFT ∷ TX_SETS ∷ [] ≡ replicate 5 6 }
+    ensures of_6_last { COEFF_CONTEXT_BITS ∷ TX_PAD_VER ∷ NEWMV_MODE_CONTEXTS ∷
+        REFMV_MODE_CONTEXTS ∷ [] ≡ replicate 4 6 }
     ensures of_7 { MAX_SB_SIZE_LOG2 ∷ SINGLE_REFS ∷ PALETTE_BSIZE_CTXS ∷ INTER_REFS_PER_FRAME ∷
         NEWMV_CTX_MASK ∷ [] ≡ replicate 5 7 }
     ensures of_8 { DIRECTIONAL_MODES ∷ INTER_MODE_CONTEXTS ∷ CFL_JOINT_SIGNS ∷
@@ -313,6 +319,12 @@ pub fn law_constants()
     ensures restoration { RESTORE_NONE ∷ RESTORE_SWITCHABLE ∷ RESTORE_WIENER ∷ RESTORE_SGRPROJ ∷ [] ≡
         0 ∷ 1 ∷ 2 ∷ 3 ∷ [] }
     ensures self_guided { SGRPROJ_PARAMS_BITS ∷ SGRPROJ_PRJ_SUBEXP_K ∷ [] ≡ replicate 2 4 }
+    ensures least_weights { SGRPROJ_XQD_MIN ≡ negsuc 95 ∷ negsuc 31 ∷ [] }
+    ensures greatest_weights { SGRPROJ_XQD_MAX ≡ pos 31 ∷ pos 95 ∷ [] }
+    ensures first_weights { SGRPROJ_XQD_MID ≡ negsuc 31 ∷ pos 31 ∷ [] }
+    ensures least_taps { WIENER_TAPS_MIN ≡ negsuc 4 ∷ negsuc 22 ∷ negsuc 16 ∷ [] }
+    ensures greatest_taps { WIENER_TAPS_MAX ≡ pos 10 ∷ pos 8 ∷ pos 46 ∷ [] }
+    ensures first_taps { WIENER_TAPS_MID ≡ pos 3 ∷ negsuc 6 ∷ pos 15 ∷ [] }
     ensures first_radius { map (λ radii. slice_index radii 0) SGRPROJ_RADII ≡
         replicate 10 2 ++ replicate 4 0 ++ replicate 2 2 }
     ensures second_radius { map (λ radii. slice_index radii 1) SGRPROJ_RADII ≡ replicate 14 1 ++ replicate 2 0 }

@@ -226,6 +226,3 @@ pub use tx_tables::tx_type_to_class;
 pub use tx_type::TxClass;
 pub use tx_type::TxSet;
 pub use tx_type::TxType;
-
-#[cfg(test)]
-mod tests;

@@ -90,8 +90,7 @@ pub fn log_in_base_2(n: u32) -> u8
     if n == 0 { 0 } else { n.ilog2() as u8 }
 }
 
-/// The greatest class whose base a size reaches, counted from 0.
-
+// The greatest class whose base a size reaches, counted from 0.
 fn class_of(z: u32) -> usize
     ensures bound { result ≤ 10 }
     ensures reached { class_base result ≤ z }

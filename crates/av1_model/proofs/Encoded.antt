@@ -26,14 +26,14 @@ module _ {Q C : Type 0} (contents : C → Q → List ℕ) (adapted : C → Q →
   context-along (Ask q k) (s ∷ ss) at = context-along (k s) ss (coded contents adapted at q s)
 
   -- each symbol of a path that fits has a valid token
-  pub tokens_valid : {A : Type 0} (t : Syntax Q A) (ss : List ℕ) (at : Coding C) → Fits contents adapted t ss at → AllByRecursion IsToken (tokens_along contents adapted t ss at.context)
+  pub tokens_valid : {A : Type 0} (t : Syntax Q A) (ss : List ℕ) (at : Coding C) → Fits contents adapted t ss at.context → AllByRecursion IsToken (tokens_along contents adapted t ss at.context)
   tokens_valid t [] at f = tt
   tokens_valid Bad (s ∷ ss) at f = absurd f
   tokens_valid (Done a) (s ∷ ss) at f = absurd f
   tokens_valid (Ask q k) (s ∷ ss) at f = (token_valid (contents at.context q) s f.0 f.1, tokens_valid (k s) ss (coded contents adapted at q s) f.2)
 
   -- a symbol adds at most 13 bits
-  pub along_shift : {A : Type 0} (t : Syntax Q A) (ss : List ℕ) (at : Coding C) → IsInterval at.interval → Fits contents adapted t ss at → (along contents adapted t ss at).interval.shift ≤ at.interval.shift + 13 * length ss
+  pub along_shift : {A : Type 0} (t : Syntax Q A) (ss : List ℕ) (at : Coding C) → IsInterval at.interval → Fits contents adapted t ss at.context → (along contents adapted t ss at).interval.shift ≤ at.interval.shift + 13 * length ss
   along_shift t [] at v f = omega arith
   along_shift Bad (s ∷ ss) at v f = absurd f
   along_shift (Done a) (s ∷ ss) at v f = absurd f

@@ -10,13 +10,16 @@ pub mod CodesPrefix
 pub mod CodesQuniform
 pub mod CodesRecenter
 pub mod CodesSubexp
+pub mod ComesLaws
 pub mod Costs
+pub mod ElementLaws
 pub mod Encoded
 pub mod Final
 pub mod Numbers
 pub mod Paths
 pub mod Positions
 pub mod ReadBack
+pub mod ReadPaths
 mod Rows
 pub mod Symbols
 pub mod Tokens

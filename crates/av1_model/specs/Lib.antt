@@ -1,7 +1,9 @@
 pub mod Bits
 pub mod Cdf
 pub mod Codes
+pub mod Comes
 pub mod Eighths
+pub mod Element
 pub mod Interval
 pub mod Laws
 pub mod Paths

@@ -2,7 +2,7 @@
 use Rattle.std.specs.Prelude.{ℕ, List, [], ◌∷◌, ◌++◌, Option, Some, None, option_map, unwrap_or}
 use Rattle.av1_model.specs.Interval.{Interval, Token, narrow}
 
--- the range and the shift of its interval, the fake bits in eighths, an encoder's low end, a recorder's tokens
+-- the range and the shift of its interval, the fake bits in 256ths of a bit, an encoder's low end, a recorder's tokens
 pub record Position : Type 0 where
   pub range : ℕ
   pub shift : ℕ

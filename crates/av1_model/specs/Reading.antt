@@ -30,8 +30,8 @@ module _ {Q C : Type 0} (contents : C → Q → List ℕ) (adapted : C → Q →
   read (Ask q k) bytes at = option_and_then (λ s. read (k s) bytes (coded at q s)) (decoded_symbol bytes at.interval (contents at.context q))
 
   -- each symbol of a path is one of a valid distribution
-  abbrev pub Fits : {A : Type 0} → Syntax Q A → List ℕ → Coding C → Type 0
-  Fits t [] at = Unit {0}
-  Fits Bad (s ∷ ss) at = ⊥
-  Fits (Done a) (s ∷ ss) at = ⊥
-  Fits (Ask q k) (s ∷ ss) at = IsCdf (contents at.context q) × (s < length (contents at.context q)) × Fits (k s) ss (coded at q s)
+  abbrev pub Fits : {A : Type 0} → Syntax Q A → List ℕ → C → Type 0
+  Fits t [] c = Unit {0}
+  Fits Bad (s ∷ ss) c = ⊥
+  Fits (Done a) (s ∷ ss) c = ⊥
+  Fits (Ask q k) (s ∷ ss) c = IsCdf (contents c q) × (s < length (contents c q)) × Fits (k s) ss (adapted c q s)

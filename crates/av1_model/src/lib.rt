@@ -6,6 +6,8 @@
 //! distribution, which adapts after it (`specs/Cdf.antt`). Which symbols stand for a syntax element is said
 //! once, by the tree that a reader goes down (`specs/Syntax.antt`); a writer goes along a path of it, and
 //! reading by the same tree gives the answer back (`specs/Reading.antt`).
+//! Elements are put together from the same parts for both (`specs/Element.antt`), and a write call says how far down the tree the
+//! writer came (`specs/Comes.antt`).
 //! A writer is known by its position (`specs/Position.antt`), an encoder's memory by its window
 //! (`specs/Window.antt`), and a cost is counted in eighths of a bit (`specs/Eighths.antt`).
 //! The codes that headers and tiles share are lists of bits (`specs/Bits.antt`, `specs/Codes.antt`).
@@ -22,6 +24,7 @@ mod interval;
 mod position;
 mod reading;
 mod syntax;
+mod writer;
 
 pub use cdf::{law_of_adapting, law_of_decoding, law_of_symbols, law_of_tiling};
 pub use codes::{
@@ -33,3 +36,4 @@ pub use interval::{law_of_final_bytes, law_of_held_bytes, law_of_narrowing};
 pub use position::law_of_positions;
 pub use reading::{law_of_coding, law_of_reading, law_of_storing};
 pub use syntax::law_of_paths;
+pub use writer::law_of_writers;

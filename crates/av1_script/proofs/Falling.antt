@@ -1,7 +1,6 @@
 -- Numbers that fall.
-use Rattle.std.proofs.Common.{ℕ, zero, suc, ◌+◌, ◌<◌, ◌≤◌, List, length, slice_index, arith, inl, inr, subst, sym, ◌≡◌, refl}
+use Rattle.std.proofs.Common.{ℕ, ◌+◌, ◌<◌, ◌≤◌, List, slice_index, arith, inl, inr, subst, sym, ◌≡◌, refl}
 use Rattle.std.proofs.lemmas.Bool.{cases_lt}
-use Rattle.av1_model.specs.Cdf.{IsCdf}
 
 -- the least of the first n numbers, or 32767 where n is 0
 pub record FallsTo (cdf : List ℕ) (n least : ℕ) : Type 0 where
@@ -45,8 +44,3 @@ falls_more cdf n least f h =
       none = λ e. absurd (omega (arith, e));
       last = λ j e. let same : j ≡ n = omega (arith, e) in subst (λ x. slice_index cdf n ≡ slice_index cdf x) (sym same) refl;
     }
-
--- where the next number is above the least one so far, the numbers are no CDF
-pub rises : (cdf : List ℕ) (n least : ℕ) → FallsTo cdf n least → n + 1 < length cdf → least < slice_index cdf n → IsCdf cdf → ⊥
-rises cdf zero least f l h c = omega (arith, f.none refl, c.below 0 l, h)
-rises cdf (suc n) least f l h c = omega (arith, f.last n (omega arith), c.falls n (suc n) (omega arith) l, h)

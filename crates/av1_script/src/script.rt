@@ -2,18 +2,14 @@
 ghost use Rattle.std.specs.Prelude.{◌≤◌, length, IfOk, OnOk};
 ghost use Rattle.av1_ec.specs.Checkpoint.{reach};
 ghost use Rattle.av1_ec.specs.declared.storage.WriterCheckpoint.{WriterCheckpoint};
-ghost use Rattle.av1_script.specs.Line.{IsFirstWord};
-ghost use Rattle.av1_script.specs.Play.{PlaysText};
 
 use crate::play::{numbers, play};
 use anyhow::{Result, bail};
-use av1_ec::{Writer, WriterBase, WriterCheckpoint, WriterEncoder};
+use av1_ec::{Known, Writer, WriterBase, WriterCheckpoint, WriterEncoder};
 use std::alloc::Global;
 
 // The name that a line begins with, which is empty in an empty line.
-fn name_of(line: &str) -> &str
-    ensures { IsFirstWord line.now result.now }
-{
+fn name_of(line: &str) -> &str {
     let Some(name) = line.split_whitespace().next() else {
         return "";
     };
@@ -27,9 +23,8 @@ fn play_line<P: Print>(
     w: &mut WriterBase<WriterEncoder>,
     line: &str,
 ) -> Result<()>
-    ensures ok { OnOk result (PlaysText line.now (⟦<WriterBase<WriterEncoder> as Writer>⟧.position w.old) (⟦<WriterBase<WriterEncoder> as Writer>⟧.position w.new)) }
-    ensures stored { OnOk result (⟦<WriterBase<WriterEncoder> as Writer>⟧.stored w.old ≤ ⟦<WriterBase<WriterEncoder> as Writer>⟧.stored w.new) }
-    ensures reached { OnOk result ((c : WriterCheckpoint) → ⟦<WriterBase<WriterEncoder> as Writer>⟧.IsReached w.old c → ⟦<WriterBase<WriterEncoder> as Writer>⟧.IsReached w.new c) }
+    ensures stored { OnOk result (⟦<WriterBase<WriterEncoder> as Known>⟧.stored w.old ≤ ⟦<WriterBase<WriterEncoder> as Known>⟧.stored w.new) }
+    ensures reached { OnOk result ((c : WriterCheckpoint) → ⟦<WriterBase<WriterEncoder> as Known>⟧.IsReached w.old c → ⟦<WriterBase<WriterEncoder> as Known>⟧.IsReached w.new c) }
 {
     let name = name_of(line);
     if name == "" {
@@ -50,10 +45,10 @@ fn play_trial<'a, P: Print>(
     start: &WriterCheckpoint,
     lines: &'a [String],
 ) -> Result<&'a [String]>
-    requires reached { ⟦<WriterBase<WriterEncoder> as Writer>⟧.IsReached w.old start.now }
-    requires reach { reach start.now ≤ ⟦<WriterBase<WriterEncoder> as Writer>⟧.stored w.old }
-    ensures stored { OnOk result (reach start.now ≤ ⟦<WriterBase<WriterEncoder> as Writer>⟧.stored w.new) }
-    ensures reached { OnOk result ((c : WriterCheckpoint) → reach c ≤ reach start.now → ⟦<WriterBase<WriterEncoder> as Writer>⟧.IsReached w.old c → ⟦<WriterBase<WriterEncoder> as Writer>⟧.IsReached w.new c) }
+    requires reached { ⟦<WriterBase<WriterEncoder> as Known>⟧.IsReached w.old start.now }
+    requires reach { reach start.now ≤ ⟦<WriterBase<WriterEncoder> as Known>⟧.stored w.old }
+    ensures stored { OnOk result (reach start.now ≤ ⟦<WriterBase<WriterEncoder> as Known>⟧.stored w.new) }
+    ensures reached { OnOk result ((c : WriterCheckpoint) → reach c ≤ reach start.now → ⟦<WriterBase<WriterEncoder> as Known>⟧.IsReached w.old c → ⟦<WriterBase<WriterEncoder> as Known>⟧.IsReached w.new c) }
     ensures fewer { IfOk result (λ rest. length rest.now ≤ length lines.now) }
 {
     let mut left = lines;

@@ -2,13 +2,10 @@
 //!
 //! - `reader`: AV1's symbol decoder on plain numbers, written from its definition alone
 //! - `rows`: worked units, with their bytes, reports and refusals
-//! - `symbol_reader`: the AV1 specification's symbol decoder, and the codes that it reads
-//! - `code_rows`: symbols and codes on an encoder, with their bytes and costs
 #![tactic(auto)]
 
-#[cfg(test)]
-mod code_rows;
 pub mod reader;
 #[cfg(test)]
 mod rows;
-pub mod symbol_reader;
+#[cfg(test)]
+mod uses;

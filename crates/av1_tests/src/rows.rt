@@ -89,69 +89,6 @@ fn reads_back(
     Ok(())
 }
 
-// A unit of an 8x8 frame is written, in either way, as a tile of this byte and so many bits, with trials of these costs.
-fn is_written(
-    rt: &impl Abort,
-    alloc: Global,
-    items: &[Item],
-    (tile, bits): (u8, u32),
-    trials: &[TrialCost],
-) -> Result<(), Fail> {
-    let unit = unit(alloc, 8, items)?;
-    let mut want = HEAD.to_vec(alloc)?;
-    want.push(tile)?;
-    for via in [Via::Direct, Via::Recorded] {
-        let Ok((bytes, report)) = unit_bytes(alloc, &unit, via) else {
-            return Err("not written".into());
-        };
-        assert_eq!(rt; bytes.as_slice(), want.as_slice());
-        let [told] = report.tiles.as_slice() else {
-            return Err("not one tile".into());
-        };
-        assert_eq!(rt; (told.bytes, told.bits), (1, bits));
-        assert_eq!(rt; report.trials.as_slice(), trials);
-        reads_back(rt, alloc, &unit, &bytes, told)?;
-    }
-    Ok(())
-}
-
-#[test]
-fn worked_units_have_their_bytes_and_reports(rt: HostRuntime) -> Result<(), Fail> {
-    let alloc = rt.alloc();
-    let b8 = block(0, 0, BlockSize::BLOCK_8X8);
-    let b4 = block(0, 0, BlockSize::BLOCK_4X4);
-    let right = block(1, 0, BlockSize::BLOCK_4X4);
-    let (on, off) = (skip(true), skip(false));
-    is_written(&rt, alloc, &[], (0x80, 1), &[])?;
-    is_written(&rt, alloc, &[b8, on], (0xc0, 2), &[])?;
-    is_written(&rt, alloc, &[b8, off], (0x20, 3), &[])?;
-    is_written(&rt, alloc, &[b4, on, right, off], (0xa0, 3), &[])
-}
-
-// What the one trial of a script costs that begins at item 1.
-fn trial(eighths: u32, kept: bool) -> TrialCost {
-    TrialCost {
-        tile: 0,
-        item: 1,
-        eighths,
-        kept,
-    }
-}
-
-#[test]
-fn trials_cost_and_abandoned_ones_leave_no_trace(rt: HostRuntime) -> Result<(), Fail> {
-    let alloc = rt.alloc();
-    let b8 = block(0, 0, BlockSize::BLOCK_8X8);
-    let (on, off, start) = (skip(true), skip(false), begin(0, 0));
-    let (keep, abandon) = (Item::Keep, Item::Abandon);
-    let given_up = [b8, start, off, abandon, on];
-    is_written(&rt, alloc, &given_up, (0xc0, 2), &[trial(9, false)])?;
-    let alone = [b8, start, on, on, on, abandon];
-    is_written(&rt, alloc, &alone, (0x80, 1), &[trial(22, false)])?;
-    let kept = [b8, start, off, keep];
-    is_written(&rt, alloc, &kept, (0x20, 3), &[trial(9, true)])
-}
-
 #[test]
 fn trials_may_lie_ten_thousand_deep(rt: HostRuntime) -> Result<(), Fail> {
     const DEPTH: usize = 10_000;
@@ -186,32 +123,48 @@ fn step<W: Writer>(tile: &mut TileState, w: &mut W, step: &TileStep) -> Result<b
     Ok(true)
 }
 
-#[test]
-fn steps_are_checked_and_written_one_by_one(rt: HostRuntime) -> Result<(), Fail> {
-    let alloc = rt.alloc();
+// The state that a tile of an empty 8x8 frame begins with.
+fn first_state(alloc: Global) -> Result<TileState, Fail> {
     let unit = unit(alloc, 8, &[])?;
     if check_tables(&unit.tables).is_some() || check_frame(&unit).is_some() {
         return Err("a broken rule".into());
     }
-    let mut tile = TileState::new(alloc, &unit, 0)?;
+    Ok(TileState::new(alloc, &unit, 0)?)
+}
+
+#[test]
+fn steps_are_checked_one_by_one(rt: HostRuntime) -> Result<(), Fail> {
+    let tile = first_state(rt.alloc())?;
     let block = TileStep::Block {
         x: 0,
         y: 0,
         size: BlockSize::BLOCK_8X8,
     };
     let skip = TileStep::Skip { answer: true };
-    assert_eq!(rt;
-        check_step(&tile, 268_435_457, &block),
-        Some(StepFault::TooLong)
-    );
-    assert_eq!(rt; check_step(&tile, 268_435_456, &block), None);
-    assert_eq!(rt;
-        check_step(&tile, 1, &skip),
-        Some(StepFault::Broken(Rule(64)))
-    );
+    let too_long = Some(StepFault::TooLong);
+    let broken = Some(StepFault::Broken(Rule(64)));
+    for (bits, step, want) in [
+        (268_435_457, block, too_long),
+        (268_435_456, block, None),
+        (1, skip, broken),
+    ] {
+        assert_eq!(rt; check_step(&tile, bits, &step), want);
+    }
+    Ok(())
+}
+
+#[test]
+fn steps_are_written_one_by_one(rt: HostRuntime) -> Result<(), Fail> {
+    let mut tile = first_state(rt.alloc())?;
     let mut counter = WriterCounter::new();
-    assert!(rt; step(&mut tile, &mut counter, &block)?);
-    assert!(rt; step(&mut tile, &mut counter, &skip)?);
+    let block = TileStep::Block {
+        x: 0,
+        y: 0,
+        size: BlockSize::BLOCK_8X8,
+    };
+    for each in [block, TileStep::Skip { answer: true }] {
+        assert!(rt; step(&mut tile, &mut counter, &each)?);
+    }
     assert_eq!(rt; counter.tell(), 2);
     Ok(())
 }
@@ -256,23 +209,6 @@ fn a_script_may_be_long(rt: HostRuntime) -> Result<(), Fail> {
     Ok(())
 }
 
-fn bad_script(item: usize) -> UnitError {
-    UnitError::BadScript { tile: 0, item }
-}
-
-#[test]
-fn the_place_of_a_bad_script_is_told(rt: HostRuntime) -> Result<(), Fail> {
-    let alloc = rt.alloc();
-    let next = block(16, 0, BlockSize::BLOCK_8X8);
-    let (start, keep, abandon) = (begin(0, 0), Item::Keep, Item::Abandon);
-    is_not_written(&rt, alloc, 8, &[start, keep, keep], bad_script(2))?;
-    is_not_written(&rt, alloc, 8, &[abandon], bad_script(0))?;
-    is_not_written(&rt, alloc, 8, &[start], bad_script(1))?;
-    is_not_written(&rt, alloc, 128, &[start, next], bad_script(1))?;
-    is_not_written(&rt, alloc, 128, &[start, begin(16, 0)], bad_script(1))?;
-    is_not_written(&rt, alloc, 128, &[next, start, skip(true)], bad_script(2))
-}
-
 #[test]
 fn sides_of_64_are_written_in_six_bits(rt: HostRuntime) -> Result<(), Fail> {
     let alloc = rt.alloc();
@@ -288,64 +224,6 @@ fn sides_of_64_are_written_in_six_bits(rt: HostRuntime) -> Result<(), Fail> {
     Ok(())
 }
 
-// A unit of these items in a square frame is not written, but for this error.
-fn is_not_written(
-    rt: &impl Abort,
-    alloc: Global,
-    side: usize,
-    items: &[Item],
-    want: UnitError,
-) -> Result<(), Fail> {
-    let unit = unit(alloc, side, items)?;
-    match written(alloc, &unit) {
-        Ok(_) => Err("written".into()),
-        Err(error) => {
-            assert_eq!(rt; error, want);
-            Ok(())
-        }
-    }
-}
-
-fn at_item(item: usize, rule: u16) -> UnitError {
-    let place = Place::Item { tile: 0, item };
-    UnitError::Refused {
-        place,
-        rule: Rule(rule),
-    }
-}
-
-fn in_frame(rule: u16) -> UnitError {
-    let place = Place::Frame;
-    UnitError::Refused {
-        place,
-        rule: Rule(rule),
-    }
-}
-
-#[test]
-fn the_first_broken_rule_of_items_is_told(rt: HostRuntime) -> Result<(), Fail> {
-    let alloc = rt.alloc();
-    let b8 = block(0, 0, BlockSize::BLOCK_8X8);
-    let outside = block(9, 0, BlockSize::BLOCK_8X8);
-    let below = block(0, 2, BlockSize::BLOCK_4X4);
-    let uneven = block(1, 0, BlockSize::BLOCK_8X8);
-    let large = block(0, 0, BlockSize::BLOCK_128X128);
-    is_not_written(&rt, alloc, 8, &[skip(true)], at_item(0, 64))?;
-    is_not_written(&rt, alloc, 8, &[b8, outside], at_item(1, 60))?;
-    is_not_written(&rt, alloc, 8, &[b8, skip(false), below], at_item(2, 60))?;
-    is_not_written(&rt, alloc, 8, &[uneven], at_item(0, 61))?;
-    is_not_written(&rt, alloc, 8, &[large], at_item(0, 61))
-}
-
-#[test]
-fn the_first_broken_rule_of_a_frame_is_told(rt: HostRuntime) -> Result<(), Fail> {
-    let alloc = rt.alloc();
-    is_not_written(&rt, alloc, 0, &[skip(true)], in_frame(20))?;
-    is_not_written(&rt, alloc, 65537, &[], in_frame(20))?;
-    is_not_written(&rt, alloc, 16384, &[], in_frame(20))?;
-    is_not_written(&rt, alloc, 4160, &[], in_frame(34))
-}
-
 // An 8x8 frame with no items, whose sets have this number at a place of the sets from one on.
 fn tabled(alloc: Global, from: usize, place: usize, number: u16) -> Result<Unit, Fail> {
     let mut unit = unit(alloc, 8, &[])?;
@@ -357,34 +235,51 @@ fn tabled(alloc: Global, from: usize, place: usize, number: u16) -> Result<Unit,
     Ok(unit)
 }
 
+// Which rule of the tables an empty 8x8 frame with this number at a place of the sets from one on breaks first.
+fn broken_table(alloc: Global, from: usize, place: usize, number: u16) -> Result<u16, Fail> {
+    let unit = tabled(alloc, from, place, number)?;
+    match written(alloc, &unit) {
+        Err(
+            UnitError::Refused {
+                place: Place::Tables,
+                rule,
+            },
+        ) => Ok(rule.0),
+        Err(_) => Err("another error".into()),
+        Ok(_) => Ok(0),
+    }
+}
+
 #[test]
 fn tables_are_looked_at_first(rt: HostRuntime) -> Result<(), Fail> {
+    let alloc = rt.alloc();
+    for (from, place, number, rule) in [
+        // a number of `skip_cdfs`, padding, and a count
+        (0, 410, 32768, 2),
+        (0, 5404, 1, 2),
+        (0, 411, 33, 2),
+        (0, 411, 32, 0),
+        (3, 410, 16000, 3),
+        // a number of `dc_sign_cdf`
+        (3, 50, 16000, 0),
+    ] {
+        assert_eq!(rt; broken_table(alloc, from, place, number)?, rule);
+    }
+    Ok(())
+}
+
+#[test]
+fn short_tables_are_looked_at_first(rt: HostRuntime) -> Result<(), Fail> {
     let alloc = rt.alloc();
     let mut short = unit(alloc, 0, &[])?;
     if let Some(set) = short.tables.sets.last_mut() {
         set.truncate(5527);
     }
-    let rows = [
-        (short, Some(1)),
-        // a number of `skip_cdfs`, padding, and a count
-        (tabled(alloc, 0, 410, 32768)?, Some(2)),
-        (tabled(alloc, 0, 5404, 1)?, Some(2)),
-        (tabled(alloc, 0, 411, 33)?, Some(2)),
-        (tabled(alloc, 0, 411, 32)?, None),
-        (tabled(alloc, 3, 410, 16000)?, Some(3)),
-        // a number of `dc_sign_cdf`
-        (tabled(alloc, 3, 50, 16000)?, None),
-    ];
-    for (unit, rule) in rows.iter() {
-        let want = rule.map(|rule| UnitError::Refused {
-            place: Place::Tables,
-            rule: Rule(rule),
-        });
-        match written(alloc, unit) {
-            Ok(_) => assert_eq!(rt; None, want),
-            Err(error) => assert_eq!(rt; Some(error), want),
-        }
-    }
+    let want = UnitError::Refused {
+        place: Place::Tables,
+        rule: Rule(1),
+    };
+    assert_eq!(rt; written(alloc, &short).err(), Some(want));
     Ok(())
 }
 
@@ -452,6 +347,116 @@ fn errors_have_their_texts(rt: HostRuntime) -> Result<(), Fail> {
         (UnitError::OutOfMemory, "out of memory"),
     ] {
         assert_eq!(rt; error.to_string(alloc)?.as_str(), text);
+    }
+    Ok(())
+}
+
+// A row is the side of the frame, its items, and what is answered: the tile, with its bits and the trials' costs, or the error.
+const ROWS: &str = "8;;80 1
+8;block 0 0 3,skip 1;c0 2
+8;block 0 0 3,skip 0;20 3
+8;block 0 0 0,skip 1,block 1 0 0,skip 0;a0 3
+8;block 0 0 3,begin 0 0,skip 0,abandon,skip 1;c0 2 9-
+8;block 0 0 3,begin 0 0,skip 1,skip 1,skip 1,abandon;80 1 22-
+8;block 0 0 3,begin 0 0,skip 0,keep;20 3 9+
+8;begin 0 0,keep,keep;BadScript { tile: 0, item: 2 }
+8;abandon;BadScript { tile: 0, item: 0 }
+8;begin 0 0;BadScript { tile: 0, item: 1 }
+128;begin 0 0,block 16 0 3;BadScript { tile: 0, item: 1 }
+128;begin 0 0,begin 16 0;BadScript { tile: 0, item: 1 }
+128;block 16 0 3,begin 0 0,skip 1;BadScript { tile: 0, item: 2 }
+8;skip 1;Refused { place: Item { tile: 0, item: 0 }, rule: Rule(64) }
+8;block 0 0 3,block 9 0 3;Refused { place: Item { tile: 0, item: 1 }, rule: Rule(60) }
+8;block 0 0 3,skip 0,block 0 2 0;Refused { place: Item { tile: 0, item: 2 }, rule: Rule(60) }
+8;block 1 0 3;Refused { place: Item { tile: 0, item: 0 }, rule: Rule(61) }
+8;block 0 0 15;Refused { place: Item { tile: 0, item: 0 }, rule: Rule(61) }
+0;skip 1;Refused { place: Frame, rule: Rule(20) }
+65537;;Refused { place: Frame, rule: Rule(20) }
+16384;;Refused { place: Frame, rule: Rule(20) }
+4160;;Refused { place: Frame, rule: Rule(34) }";
+
+fn number(word: Option<&str>) -> Result<usize, Fail> {
+    let Some(word) = word else {
+        return Err("no number".into());
+    };
+    Ok(word.parse::<usize>()?)
+}
+
+fn item(text: &str) -> Result<Item, Fail> {
+    let mut words = text.split_whitespace();
+    match words.next().unwrap_or("") {
+        "block" => {
+            let (x, y) = (number(words.next())?, number(words.next())?);
+            match BlockSize::from_number(number(words.next())?) {
+                Some(size) => Ok(Item::Step(TileStep::Block { x, y, size })),
+                None => Err("no size".into()),
+            }
+        }
+        "skip" => Ok(Item::Step(TileStep::Skip {
+            answer: number(words.next())? == 1,
+        })),
+        "begin" => {
+            let (x, y) = (number(words.next())?, number(words.next())?);
+            Ok(Item::Begin(TileBlockOffset(BlockOffset { x, y })))
+        }
+        "keep" => Ok(Item::Keep),
+        _ => Ok(Item::Abandon),
+    }
+}
+
+fn items(alloc: Global, text: &str) -> Result<Vec<Item>, Fail> {
+    let mut all = Vec::new(alloc);
+    for part in text.split(',') {
+        if part != "" {
+            all.push(item(part)?)?;
+        }
+    }
+    Ok(all)
+}
+
+// What a unit of these items in a square frame is answered with.
+fn answer(
+    rt: &impl Abort,
+    alloc: Global,
+    side: usize,
+    items: &[Item],
+    via: Via,
+) -> Result<String, Fail> {
+    let unit = unit(alloc, side, items)?;
+    match unit_bytes(alloc, &unit, via) {
+        Ok((bytes, report)) => {
+            assert!(rt; bytes.starts_with(&HEAD));
+            if let Some(told) = report.tiles.first() {
+                reads_back(rt, alloc, &unit, &bytes, told)?;
+            }
+            let tile = bytes.last().copied().unwrap_or(0);
+            let bits = report.tiles.first().map(|told| told.bits).unwrap_or(0);
+            let mut text = format!(in alloc; "{tile:02x} {bits}")?;
+            for trial in report.trials.iter() {
+                let sign = if trial.kept { "+" } else { "-" };
+                text = format!(in alloc; "{text} {}{sign}", trial.eighths)?;
+            }
+            Ok(text)
+        }
+        Err(error) => Ok(format!(in alloc; "{error:?}")?),
+    }
+}
+
+#[test]
+fn rows_are_answered(rt: HostRuntime) -> Result<(), Fail> {
+    let alloc = rt.alloc();
+    for row in ROWS.lines() {
+        let mut parts = row.split(';');
+        let side = number(parts.next())?;
+        let items = items(alloc, parts.next().unwrap_or(""))?;
+        let want = parts.next().unwrap_or("");
+        for via in [Via::Direct, Via::Recorded] {
+            assert_eq!(rt;
+                answer(&rt, alloc, side, &items, via)?.as_str(),
+                want,
+                "{row}"
+            );
+        }
     }
     Ok(())
 }

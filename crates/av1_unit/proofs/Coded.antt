@@ -10,7 +10,7 @@ use Rattle.av1_ec.specs.Recorder.{tokens_at}
 use Rattle.av1_ec.proofs.OneRate.{tokens_recorded}
 use Rattle.av1_unit.specs.declared.unit.TileStep.{TileStep}
 use Rattle.av1_unit.specs.Tile.{Tile}
-use Rattle.av1_unit.specs.Script.{after, tokens_of}
+use Rattle.av1_unit.specs.Script.{after_step, tokens_of}
 use Rattle.av1_unit.specs.Coder.{IsNew, HasCoded}
 use Rattle.av1_unit.proofs.ReadingBack.{encoder_after}
 
@@ -38,7 +38,7 @@ told_is start position i h = rw (coded_range start position i h, coded_shift sta
 
 -- the tokens of a step come after those before
 pub coded_after : (start position there : Position) (at : Coding Tile) (step : TileStep) → HasCoded start position at.interval → there ≡ advance_all position (tokens_of step at.context)
-    → HasCoded start there (after at step).interval
+    → HasCoded start there (after_step at step).interval
 coded_after start position there at step h wrote =
     let us = tokens_of step at.context in
     record {

@@ -11,6 +11,8 @@ use Rattle.av1_unit.specs.declared.error.UnitError.TheVariants.{BadScript}
 use Rattle.av1_unit.specs.declared.report.TrialCost.{TrialCost}
 use Rattle.av1_unit.specs.declared.tile.TileState.{TileState}
 use Rattle.av1_unit.specs.declared.unit.Item.{Item}
+use Rattle.av1_unit.specs.State.{tile_of}
+use Rattle.av1_unit.specs.Tile.{Tile}
 use Rattle.av1_unit.specs.Trials.{Trial, Progress, moved, moved_all, first_wrong, no_trial}
 use Rattle.av1_unit.proofs.Surviving.{nothing_wrong}
 use Rattle.av1_unit.specs.Coder.{all_costs, AreMarks, StandsAt}
@@ -29,19 +31,19 @@ moved_more p items i item h e =
 module _ {W : Type 0} (start : Position) (IsReached : W → WriterCheckpoint → Type 0) (position_at : W → WriterCheckpoint → Position) where
   -- i items are taken: a tile on its way stands there, and what is wrong with all is wrong with those that are left
   pub record HasCome (begin : Progress) (items : List Item) (i : ℕ) (tile : TileState) (w : W) (position : Position) (stored : ℕ) (marks : List TrialMark) (costs : List TrialCost) : Type 0 where
-    pub stands : StandsAt start IsReached position_at i tile w position stored marks costs (moved_all 0 begin (take i items))
+    pub stands : StandsAt start IsReached position_at tile w position stored marks costs (moved_all 0 begin (take i items))
     pub wrong : first_wrong 0 begin items ≡ first_wrong i (moved_all 0 begin (take i items)) (drop i items)
 
   pub come_more : (begin : Progress) (items : List Item) (i : ℕ) (item : Item) (tile : TileState) (w : W) (position : Position) (stored : ℕ) (marks : List TrialMark) (costs : List TrialCost)
       → i < length items → get_or items i item ≡ item
       → first_wrong 0 begin items ≡ first_wrong i (moved_all 0 begin (take i items)) (drop i items)
-      → StandsAt start IsReached position_at (i + 1) tile w position stored marks costs (moved i (moved_all 0 begin (take i items)) item)
+      → StandsAt start IsReached position_at tile w position stored marks costs (moved i (moved_all 0 begin (take i items)) item)
       → ((rest : List Item) → first_wrong i (moved_all 0 begin (take i items)) (item ∷ rest) ≡ first_wrong (i + 1) (moved i (moved_all 0 begin (take i items)) item) rest)
       → HasCome begin items (i + 1) tile w position stored marks costs
   come_more begin items i item tile w position stored marks costs h e wrong stands right =
       let more = moved_more begin items i item h e in
       record {
-        stands = subst (λ (p : Progress). StandsAt start IsReached position_at (i + 1) tile w position stored marks costs p) (sym more) stands;
+        stands = subst (λ (p : Progress). StandsAt start IsReached position_at tile w position stored marks costs p) (sym more) stands;
         wrong = wrong ∙ ap (λ (l : List Item). first_wrong i (moved_all 0 begin (take i items)) l) (drop_more items i item h ∙ ap (λ x. x ∷ drop (i + 1) items) e)
             ∙ right (drop (i + 1) items) ∙ ap (λ (p : Progress). first_wrong (i + 1) p (drop (i + 1) items)) (sym more);
       }
@@ -65,7 +67,7 @@ module _ {W : Type 0} (start : Position) (IsReached : W → WriterCheckpoint →
 
   at_last : (begin : Progress) (items : List Item) (i : ℕ) (tile : TileState) (w : W) (position : Position) (stored : ℕ) (marks : List TrialMark) (costs : List TrialCost)
       → HasCome start IsReached position_at begin items i tile w position stored marks costs → length items ≤ i
-      → first_wrong 0 begin items ≡ (if no_trial (moved_all 0 begin (take i items)).trials then None else Some (BadScript 0 i))
+      → first_wrong 0 begin items ≡ (if no_trial (moved_all 0 begin (take i items)).trials then None else Some (BadScript (moved_all 0 begin (take i items)).at.context.number i))
   at_last begin items i tile w position stored marks costs come h =
       come.wrong ∙ ap (λ (l : List Item). first_wrong i (moved_all 0 begin (take i items)) l) (drop_all i items h)
 
@@ -75,16 +77,16 @@ module _ {W : Type 0} (start : Position) (IsReached : W → WriterCheckpoint →
   ended_right begin items i tile w position stored marks costs come h e =
       let p = moved_all 0 begin (take i items) in
       at_last begin items i tile w position stored marks costs come h
-      ∙ ap (λ b. if b then None else Some (BadScript 0 i)) (no_marks w stored (eighths p.at.interval) marks p.trials p.costs come.stands.marks_are e)
+      ∙ ap (λ b. if b then None else Some (BadScript p.at.context.number i)) (no_marks w stored (eighths p.at.interval) marks p.trials p.costs come.stands.marks_are e)
 
   -- where one is left, the script has not ended it
   pub ended_wrong : (begin : Progress) (items : List Item) (i : ℕ) (tile : TileState) (w : W) (position : Position) (stored : ℕ) (marks : List TrialMark) (costs : List TrialCost)
-      → HasCome start IsReached position_at begin items i tile w position stored marks costs → length items ≡ i → 0 < length marks → first_wrong 0 begin items ≡ Some (BadScript 0 (length items))
+      → HasCome start IsReached position_at begin items i tile w position stored marks costs → length items ≡ i → 0 < length marks → first_wrong 0 begin items ≡ Some (BadScript (tile_of tile).number (length items))
   ended_wrong begin items i tile w position stored marks costs come h e =
       let p = moved_all 0 begin (take i items) in
       at_last begin items i tile w position stored marks costs come (omega (arith, h))
-      ∙ ap (λ b. if b then None else Some (BadScript 0 i)) (some_marks w stored (eighths p.at.interval) marks p.trials p.costs come.stands.marks_are e)
-      ∙ ap (λ k. Some (BadScript 0 k)) (sym h)
+      ∙ ap (λ b. if b then None else Some (BadScript p.at.context.number i)) (some_marks w stored (eighths p.at.interval) marks p.trials p.costs come.stands.marks_are e)
+      ∙ ap (λ k. Some (BadScript p.at.context.number k)) (sym h) ∙ ap (λ (t : Tile). Some (BadScript t.number (length items))) (sym come.stands.tile_is)
 
 none_or : (b : Bool) (e : UnitError) → (if b then None else Some e) ≡ None → b ≡ true
 none_or true e h = refl
@@ -92,7 +94,7 @@ none_or false e h = cc
 
 -- where nothing is wrong, each trial ends
 ends_all : (n : ℕ) (p : Progress) (items : List Item) → first_wrong n p items ≡ None → no_trial (moved_all n p items).trials ≡ true
-ends_all n p [] h = none_or (no_trial p.trials) (BadScript 0 n) h
+ends_all n p [] h = none_or (no_trial p.trials) (BadScript p.at.context.number n) h
 ends_all n p (item ∷ items) h = ends_all (n + 1) (moved n p item) items (nothing_wrong n p item items h).2
 
 only_costs : (trials : List Trial) (costs : List TrialCost) → no_trial trials ≡ true → all_costs trials costs ≡ costs

@@ -5,9 +5,8 @@ use Rattle.std.proofs.lemmas.List.{length-replicate}
 use Rattle.av1_model.specs.Bits.{bits_of, byte_aligned}
 use Rattle.av1_model.specs.WholeBytes.{bytes_from, to_bytes}
 use Rattle.av1_model.proofs.BitsNumbers.{length-bits_of}
-use Rattle.av1_unit.specs.declared.unit.Unit.{Unit}
 use Rattle.av1_unit.specs.Header.{Field, field, size_fields, tile_info_fields, quantizer_fields, loop_filter_fields, field_bits, sequence_header_fields, frame_header_fields, obu_header_fields, one_tile_fields, superblocks}
-use Rattle.av1_unit.specs.Framing.{sequence_payload, frame_payload}
+use Rattle.av1_unit.specs.Framing.{Given, sequence_payload, frame_payload}
 
 length-bytes_from : (n : ℕ) (bits : List Bool) → length (bytes_from n bits) ≡ n
 length-bytes_from zero bits = refl
@@ -63,12 +62,12 @@ frame_bits width height =
     let last : length (field_bits loop_filter_fields) ≡ 18 = length-field_bits loop_filter_fields in
     omega (arith, length-both (size_fields ++ tiles ++ quantizer_fields) loop_filter_fields, length-both (size_fields ++ tiles) quantizer_fields, length-both size_fields tiles, some, tiles_few, more, last)
 
-pub sequence_short : (u : Unit) → length (sequence_payload u) ≤ 32
+pub sequence_short : (u : Given) → length (sequence_payload u) ≤ 32
 sequence_short u =
     let bits = field_bits (sequence_header_fields u.width u.height) in
     omega (arith, length-to_bytes (byte_aligned (bits ++ true ∷ [])), length-aligned (bits ++ true ∷ []), length-append bits (true ∷ []), sequence_bits u.width u.height)
 
-pub frame_short : (u : Unit) (tile : List ℕ) → length (frame_payload u tile) ≤ 32 + length tile
+pub frame_short : (u : Given) (tile : List ℕ) → length (frame_payload u (tile ∷ [])) ≤ 32 + length tile
 frame_short u tile =
     let bits = field_bits (frame_header_fields u.width u.height) in
     omega (arith, length-append (to_bytes (byte_aligned bits)) tile, length-to_bytes (byte_aligned bits), length-aligned bits, frame_bits u.width u.height)

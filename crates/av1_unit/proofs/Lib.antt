@@ -3,6 +3,7 @@ mod Coming
 mod Contexts
 mod Fresh
 mod Grid
+mod KindLaws
 mod Lengths
 mod Marks
 mod ReadingBack

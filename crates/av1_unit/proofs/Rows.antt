@@ -16,14 +16,14 @@ use Rattle.av1_model.specs.Codes.{leb128}
 use Rattle.av1_model.specs.Interval.{final_bytes, bits}
 use Rattle.av1_cdf.specs.Context.{written_between}
 use Rattle.av1_cdf.specs.Layout.{slot, layout, fields, vector_fields, component_fields}
-use Rattle.av1_cdf.specs.Tables.{first_broken}
+use Rattle.av1_geometry.specs.Rules.{first_broken}
 use Rattle.av1_model.specs.Reading.{Coding}
 use Rattle.av1_unit.specs.Tile.{Tile}
 use Rattle.av1_unit.specs.Headline.{first_refusal, frame_rules, started, fresh_coding}
-use Rattle.av1_unit.specs.Step.{Nothing, Flag, question_of}
+use Rattle.av1_unit.specs.Step.{question_of}
 use Rattle.av1_unit.specs.Script.{after_all, read_steps}
 use Rattle.av1_unit.specs.Trials.{surviving, moved_all, first_wrong}
-use Rattle.av1_unit.specs.Framing.{framed}
+use Rattle.av1_unit.specs.Framing.{given_of, framed}
 
 square : ℕ → List Item → Unit
 square side items = record { tables = []; width = side; height = side; script = items }
@@ -34,7 +34,7 @@ numbers = replicate 410 0 ++ 16384 ∷ 0 ∷ 16384 ∷ 0 ∷ 16384 ∷ 0 ∷ []
 
 -- where the tile of a frame of 8x8, or of so many 4x4 blocks each way, begins
 at_first : ℕ → Coding Tile
-at_first side = fresh_coding side side numbers
+at_first side = fresh_coding 0 side side numbers
 
 -- the tile of an 8x8 frame, and its bits
 tile : List Item → List ℕ
@@ -66,7 +66,7 @@ empty_tile : tile [] ≡ 0x80 ∷ []
 unfolding tile at_first numbers slot layout fields vector_fields component_fields written_between
 empty_tile = refl
 
-first_unit : framed (square 8 []) (0x80 ∷ []) ≡ 0x12 ∷ 0x00 ∷ 0x0a ∷ 0x05 ∷ 0x18 ∷ 0x08 ∷ 0xbf ∷ 0x01 ∷ 0x10 ∷ 0x32 ∷ 0x06 ∷ 0x16 ∷ 0x40 ∷ 0x00 ∷ 0x00 ∷ 0x00 ∷ 0x80 ∷ []
+first_unit : framed (given_of (square 8 [])) ((0x80 ∷ []) ∷ []) ≡ 0x12 ∷ 0x00 ∷ 0x0a ∷ 0x05 ∷ 0x18 ∷ 0x08 ∷ 0xbf ∷ 0x01 ∷ 0x10 ∷ 0x32 ∷ 0x06 ∷ 0x16 ∷ 0x40 ∷ 0x00 ∷ 0x00 ∷ 0x00 ∷ 0x80 ∷ []
 unfolding square count_leading_zeros bits_of leb128
 first_unit = refl
 
@@ -107,7 +107,7 @@ outside_refused : wrong 2 (Step (Block 0 2 BLOCK_4X4) ∷ []) ≡ Some (Refused 
 unfolding wrong at_first
 outside_refused = refl
 
-no_side_refused : first_broken (frame_rules (square 0 [])) ≡ Some 20
+no_side_refused : first_broken (frame_rules (square 0 [])) ≡ Some record { 0 = 20 }
 unfolding square
 no_side_refused = refl
 
@@ -117,7 +117,7 @@ unfolding square
 no_tables_refused = refl
 
 -- a reader that is led by the questions takes the flags
-read_two : option_map (λ r. r.0) (read_steps (map question_of (surviving two_blocks)) (0xa0 ∷ []) (at_first 2)) ≡ Some (Nothing ∷ Flag true ∷ Nothing ∷ Flag false ∷ [])
+read_two : option_map (λ r. r.0) (read_steps (map question_of (surviving two_blocks)) (0xa0 ∷ []) (at_first 2)) ≡ Some (Block 0 0 BLOCK_4X4 ∷ Skip true ∷ Block 1 0 BLOCK_4X4 ∷ Skip false ∷ [])
 unfolding at_first numbers slot layout fields vector_fields component_fields written_between two_blocks count_leading_zeros
 read_two = refl
 

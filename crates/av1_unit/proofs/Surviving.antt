@@ -9,8 +9,9 @@ use Rattle.av1_unit.specs.declared.unit.Item.{Item}
 use Rattle.av1_unit.specs.declared.unit.Item.TheVariants.{Step, Begin, Keep, Abandon}
 use Rattle.av1_unit.specs.declared.unit.TileStep.{TileStep}
 use Rattle.av1_unit.specs.Tile.{Tile}
-use Rattle.av1_cdf.specs.Tables.{first_broken}
-use Rattle.av1_unit.specs.Script.{after, after_all, first_broken_step}
+use Rattle.av1_geometry.specs.declared.error.Rule.{Rule}
+use Rattle.av1_geometry.specs.Rules.{first_broken}
+use Rattle.av1_unit.specs.Script.{after_step, after_all, first_broken_step}
 use Rattle.av1_unit.specs.declared.error.StepFault.TheVariants.{TooLong, Broken}
 use Rattle.av1_unit.specs.Trials.{too_long, item_fault, error_of, Trial, Progress, with_costs, cost_of, moved, moved_all, surviving_from, misplaced, item_rules, first_wrong}
 use Rattle.av1_unit.proofs.StepLaws.{IsAllowed}
@@ -18,15 +19,15 @@ use Rattle.av1_unit.proofs.ReadingBack.{allowed}
 
 pub after_all-append : (at : Coding Tile) (xs ys : List TileStep) → after_all at (xs ++ ys) ≡ after_all (after_all at xs) ys
 after_all-append at [] ys = refl
-after_all-append at (x ∷ xs) ys = after_all-append (after at x) xs ys
+after_all-append at (x ∷ xs) ys = after_all-append (after_step at x) xs ys
 
 -- one step more that breaks no rule
 pub allowed_more : (n : ℕ) (at : Coding Tile) (steps : List TileStep) (step : TileStep) → first_broken_step n at steps ≡ None → IsAllowed step (after_all at steps).context → first_broken_step n at (steps ++ step ∷ []) ≡ None
 allowed_more n at [] step h a = ap (λ o. option_map_or (λ rule. Some (n, rule)) o None) a
 allowed_more n at (first ∷ steps) step h a =
     let f = allowed n at first steps h in
-    ap (λ o. option_map_or (λ rule. Some (n, rule)) o (first_broken_step (n + 1) (after at first) (steps ++ step ∷ []))) f.0
-    ∙ allowed_more (n + 1) (after at first) steps step f.1 a
+    ap (λ o. option_map_or (λ rule. Some (n, rule)) o (first_broken_step (n + 1) (after_step at first) (steps ++ step ∷ []))) f.0
+    ∙ allowed_more (n + 1) (after_step at first) steps step f.1 a
 
 -- what the trials began at is what had survived before them
 pub AllMatch : Coding Tile → List Trial → List (List TileStep) → Type 0
@@ -50,7 +51,7 @@ choose false wrong say (Some rule) rest some h = absurd (some rule h)
 pub no_fault : (item : Item) (at : Coding Tile) → item_fault item at ≡ None → (too_long item at ≡ false) × (first_broken (item_rules item at.context) ≡ None)
 no_fault item at h = neither (too_long item at) (first_broken (item_rules item at.context)) h
   where
-    neither : (long : Bool) (o : Option ℕ) → (if long then Some TooLong else option_map (λ rule. Broken record { 0 = rule }) o) ≡ None → (long ≡ false) × (o ≡ None)
+    neither : (long : Bool) (o : Option Rule) → (if long then Some TooLong else option_map Broken o) ≡ None → (long ≡ false) × (o ≡ None)
     neither true o e = cc
     neither false None e = (refl, refl)
     neither false (Some rule) e = cc
@@ -58,7 +59,7 @@ no_fault item at h = neither (too_long item at) (first_broken (item_rules item a
 pub nothing_wrong : (n : ℕ) (p : Progress) (item : Item) (items : List Item) → first_wrong n p (item ∷ items) ≡ None
     → (misplaced item p.at.context p.trials ≡ false) × (first_broken (item_rules item p.at.context) ≡ None) × (first_wrong (n + 1) (moved n p item) items ≡ None)
 nothing_wrong n p item items h =
-    let c = choose (misplaced item p.at.context p.trials) (BadScript 0 n) (λ fault. Some (error_of n fault)) (item_fault item p.at) (first_wrong (n + 1) (moved n p item) items) (λ fault e. cc) h in
+    let c = choose (misplaced item p.at.context p.trials) (BadScript p.at.context.number n) (λ fault. Some (error_of p.at.context.number n fault)) (item_fault item p.at) (first_wrong (n + 1) (moved n p item) items) (λ fault e. cc) h in
     (c.0, (no_fault item p.at c.1).1, c.2)
 
 -- costs change nothing but costs
@@ -79,8 +80,8 @@ unfolding AllMatch
 survives begin [] n at trials costs outer steps is free match right = (is, free)
 survives begin (Step step ∷ items) n at trials costs outer steps is free match right =
     let w = nothing_wrong n record { at = at; trials = trials; costs = costs } (Step step) items right in
-    survives begin items (n + 1) (after at step) trials costs outer (steps ++ step ∷ [])
-    (ap (λ (a : Coding Tile). after a step) is ∙ sym (after_all-append begin steps (step ∷ [])))
+    survives begin items (n + 1) (after_step at step) trials costs outer (steps ++ step ∷ [])
+    (ap (λ (a : Coding Tile). after_step a step) is ∙ sym (after_all-append begin steps (step ∷ [])))
     (allowed_more 0 begin steps step free (subst (λ (a : Coding Tile). IsAllowed step a.context) is w.1)) match w.2
 survives begin (Begin place ∷ items) n at trials costs outer steps is free match right =
     let w = nothing_wrong n record { at = at; trials = trials; costs = costs } (Begin place) items right in

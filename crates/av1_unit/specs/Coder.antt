@@ -5,7 +5,9 @@ use Rattle.av1_model.specs.Interval.{Interval, Token, whole}
 use Rattle.av1_model.specs.Position.{Position, advance_all, encoder_at}
 use Rattle.av1_ec.specs.declared.storage.WriterCheckpoint.{WriterCheckpoint}
 use Rattle.av1_ec.specs.Checkpoint.{reach}
+use Rattle.av1_ec.specs.declared.known.Known.{Ghosts}
 use Rattle.av1_unit.specs.declared.coding.TrialMark.{TrialMark}
+use Rattle.av1_unit.specs.declared.coding.TileCoder.{TileCoder}
 use Rattle.av1_unit.specs.declared.report.TrialCost.{TrialCost}
 use Rattle.av1_unit.specs.declared.tile.TileState.{TileState}
 use Rattle.av1_unit.specs.State.{tile_of}
@@ -14,7 +16,7 @@ use Rattle.av1_unit.specs.Trials.{Trial, Progress}
 
 -- the cost of a trial that has not ended, which is not known yet
 abbrev pub unknown_cost : Trial → TrialCost
-unknown_cost t = record { tile = 0; item = t.item; eighths = 0; kept = false }
+unknown_cost t = record { tile = t.start.context.number; item = t.item; eighths = 0; kept = false }
 
 -- all costs, in the order of the trials' beginnings
 abbrev pub all_costs : List Trial → List TrialCost → List TrialCost
@@ -53,11 +55,29 @@ module _ {W : Type 0} (start : Position) (IsReached : W → WriterCheckpoint →
       (outer : List TrialMark) × (m : TrialMark) × (marks ≡ outer ++ m ∷ []) × MarkIs w bound most (length (all_costs ts costs)) m t
       × AreMarks w (reach m.writer) (eighths t.start.interval) outer ts costs
 
-  -- tile, writer, marks and costs are those of a script's progress after n items
-  pub record StandsAt (n : ℕ) (tile : TileState) (w : W) (position : Position) (stored : ℕ) (marks : List TrialMark) (costs : List TrialCost) (p : Progress) : Type 0 where
+  -- tile, writer, marks and costs are those of a script's progress
+  pub record StandsAt (tile : TileState) (w : W) (position : Position) (stored : ℕ) (marks : List TrialMark) (costs : List TrialCost) (p : Progress) : Type 0 where
     pub tile_is : tile_of tile ≡ p.at.context
     pub coded : HasCoded start position p.at.interval
     pub marks_are : AreMarks w stored (eighths p.at.interval) marks p.trials p.costs
     pub costs_are : costs ≡ all_costs p.trials p.costs
     pub sound : IsSound p.at
-    pub few : eighths p.at.interval ≤ 8 * (2 ^ 28 + 14)
+    pub few : eighths p.at.interval ≤ 8 * (2 ^ 28 + 2 ^ 24)
+
+-- `writer` has the words of the writers W
+module _ {W : Type 0} (writer : Ghosts W) where
+  -- a coder whose writer was new at `start` has come so far in a script
+  abbrev pub HasTaken : Position → TileCoder W → Progress → Type 0
+  HasTaken start c p = StandsAt start writer.IsReached writer.position_at c.tile c.writer (writer.position c.writer) (writer.stored c.writer) c.marks.items c.costs.items p
+
+  -- it has come somewhere in some script
+  abbrev pub Stands : TileCoder W → Type 0
+  Stands c = (start : Position) × (p : Progress) × HasTaken start c p
+
+  -- of every progress that it can have come to, this holds
+  abbrev pub Knows : TileCoder W → (Progress → Type 0) → Type 0
+  Knows c P = (start : Position) (p : Progress) → HasTaken start c p → P p
+
+  -- the progress went by f
+  abbrev pub Proceeds : TileCoder W → TileCoder W → (Progress → Progress) → Type 0
+  Proceeds old new f = (start : Position) (p : Progress) → HasTaken start old p → HasTaken start new (f p)

@@ -2,6 +2,7 @@ pub mod Coder
 pub mod Framing
 pub mod Header
 pub mod Headline
+pub mod Kind
 pub mod Report
 pub mod Script
 pub mod Sound
@@ -9,3 +10,4 @@ pub mod State
 pub mod Step
 pub mod Tile
 pub mod Trials
+pub mod Writing

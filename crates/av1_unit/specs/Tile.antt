@@ -1,16 +1,17 @@
 -- The state of a tile: what decides how the next step is coded. Places count 4x4 luma blocks from the tile's corner.
-use Rattle.std.specs.Prelude.{ℕ, ◌+◌, ◌-◌, ◌&&◌, ◌==◌, not, List, [], ◌∷◌, Bool, false, Option, None, nat_le, nat_lt, min, if◌then◌else◌, codes}
+use Rattle.std.specs.Prelude.{ℕ, ◌+◌, ◌-◌, ◌&&◌, ◌==◌, not, List, [], ◌∷◌, Bool, true, false, Option, None, nat_le, nat_lt, min, if◌then◌else◌, codes}
 use Rattle.av1_geometry.specs.BlockSize.{width_mi, height_mi}
 use Rattle.av1_cdf.specs.Layout.{Slot, slot}
-use Rattle.av1_cdf.specs.Context.{contents as numbers_in, with_contents}
-use Rattle.av1_model.specs.Cdf.{adapt}
 use Rattle.av1_unit.specs.declared.tile.CurrentBlock.{CurrentBlock}
 
 pub record Tile : Type 0 where
+  -- which tile of the frame it is
+  pub number : ℕ
   pub cols : ℕ
   pub rows : ℕ
-  -- the numbers of the adaptive distributions
+  -- the numbers of the adaptive distributions, and whether they learn
   pub numbers : List ℕ
+  pub learns : Bool
   -- the skip flag of the block at column x and row y
   pub skip : ℕ → ℕ → Bool
   pub current : Option CurrentBlock
@@ -32,14 +33,10 @@ skip_context t b =
 abbrev pub skip_slot : ℕ → Slot
 skip_slot context = slot (codes "skip_cdfs") (context ∷ [])
 
--- the distribution at a slot
-abbrev pub contents : Tile → Slot → List ℕ
-contents t s = numbers_in t.numbers s
+-- the tile with these numbers
+abbrev pub with_numbers : List ℕ → Tile → Tile
+with_numbers numbers t = record t { numbers = numbers }
 
--- the tile after a symbol of a slot
-abbrev pub adapted : Tile → Slot → ℕ → Tile
-adapted t s symbol = record t { numbers = with_contents t.numbers s (adapt (contents t s) symbol) }
-
--- a tile of so many columns and rows before its first step, with the numbers that its distributions start from
-abbrev pub fresh : ℕ → ℕ → List ℕ → Tile
-fresh cols rows numbers = record { cols = cols; rows = rows; numbers = numbers; skip = λ x y. false; current = None }
+-- tile number k, of so many columns and rows, before its first step, with the numbers that its distributions start from
+abbrev pub fresh : ℕ → ℕ → ℕ → List ℕ → Tile
+fresh k cols rows numbers = record { number = k; cols = cols; rows = rows; numbers = numbers; learns = true; skip = λ x y. false; current = None }

@@ -14,11 +14,10 @@ use Rattle.av1_unit.specs.declared.report.TrialCost.{TrialCost}
 use Rattle.av1_unit.specs.declared.unit.Item.{Item}
 use Rattle.av1_unit.specs.declared.unit.Item.TheVariants.{Step, Begin, Keep, Abandon}
 use Rattle.av1_unit.specs.declared.unit.TileStep.{TileStep}
-use Rattle.av1_unit.specs.declared.unit.TileStep.TheVariants.{Block, Skip}
 use Rattle.av1_unit.specs.Tile.{Tile}
-use Rattle.av1_cdf.specs.Tables.{Check, first_broken}
-use Rattle.av1_unit.specs.Step.{question_of, rules, most_bits}
-use Rattle.av1_unit.specs.Script.{after}
+use Rattle.av1_geometry.specs.Rules.{Check, first_broken, rule}
+use Rattle.av1_unit.specs.Step.{question_of, kind_of, rules, most_bits}
+use Rattle.av1_unit.specs.Script.{after_step}
 
 -- The steps that survive: each `Abandon` strikes out everything back to the `Begin` that it ends. `outer` has what
 -- survived before each trial that has begun, the innermost first.
@@ -50,7 +49,7 @@ pub record Progress : Type 0 where
 
 -- what a trial that ends here cost: how much was coded since its beginning, before it is undone
 abbrev pub cost_of : Bool → Coding Tile → Trial → TrialCost
-cost_of kept at t = record { tile = 0; item = t.item; eighths = eighths at.interval - eighths t.start.interval; kept = kept }
+cost_of kept at t = record { tile = at.context.number; item = t.item; eighths = eighths at.interval - eighths t.start.interval; kept = kept }
 
 -- costs join those of the innermost trial, or of the script
 abbrev pub with_costs : List TrialCost → Coding Tile → List Trial → List TrialCost → Progress
@@ -64,7 +63,7 @@ ended kept at (t ∷ ts) costs = with_costs (cost_of kept at t ∷ t.inner) (if 
 
 -- after an item, which is number n
 abbrev pub moved : ℕ → Progress → Item → Progress
-moved n p (Step step) = record p { at = after p.at step }
+moved n p (Step step) = record p { at = after_step p.at step }
 moved n p (Begin place) = record p { trials = record { place = place.0; item = n; start = p.at; inner = [] } ∷ p.trials }
 moved n p Keep = ended true p.at p.trials p.costs
 moved n p Abandon = ended false p.at p.trials p.costs
@@ -75,8 +74,7 @@ moved_all n p (item ∷ items) = moved_all (n + 1) (moved n p item) items
 
 -- the place of an item: its own, or the current block's
 abbrev pub place_of : Item → Tile → Option BlockOffset
-place_of (Step (Block x y size)) t = Some record { x = x; y = y }
-place_of (Step (Skip flag)) t = option_map (λ b. record { x = b.x; y = b.y }) t.current
+place_of (Step step) t = (kind_of (question_of step) t).place
 place_of (Begin place) t = Some place.0
 place_of Keep t = None
 place_of Abandon t = None
@@ -102,8 +100,8 @@ misplaced Abandon t trials = no_trial trials
 
 -- the rules of an item, by rising numbers
 abbrev pub item_rules : Item → Tile → List Check
-item_rules (Step step) t = rules (question_of step) t
-item_rules (Begin place) t = (60, nat_lt place.0.x t.cols && nat_lt place.0.y t.rows) ∷ []
+item_rules (Step step) t = rules step t
+item_rules (Begin place) t = rule 60 (nat_lt place.0.x t.cols && nat_lt place.0.y t.rows) ∷ []
 item_rules Keep t = []
 item_rules Abandon t = []
 
@@ -116,16 +114,16 @@ too_long Abandon at = false
 
 -- what is wrong with an item that may come here
 abbrev pub item_fault : Item → Coding Tile → Option StepFault
-item_fault item at = if too_long item at then Some TooLong else option_map (λ rule. Broken record { 0 = rule }) (first_broken (item_rules item at.context))
+item_fault item at = if too_long item at then Some TooLong else option_map Broken (first_broken (item_rules item at.context))
 
--- the error that says what is wrong with item n
-abbrev pub error_of : ℕ → StepFault → UnitError
-error_of n TooLong = TooLongError (ItemPlace 0 n)
-error_of n (Broken rule) = Refused (ItemPlace 0 n) rule
+-- the error that says what is wrong with item n of tile k
+abbrev pub error_of : ℕ → ℕ → StepFault → UnitError
+error_of k n TooLong = TooLongError (ItemPlace k n)
+error_of k n (Broken r) = Refused (ItemPlace k n) r
 
 -- the first thing that is wrong with items, the first of which is number n
 abbrev pub first_wrong : ℕ → Progress → List Item → Option UnitError
-first_wrong n p [] = if no_trial p.trials then None else Some (BadScript 0 n)
+first_wrong n p [] = if no_trial p.trials then None else Some (BadScript p.at.context.number n)
 first_wrong n p (item ∷ items) =
-    if misplaced item p.at.context p.trials then Some (BadScript 0 n)
-    else option_map_or (λ fault. Some (error_of n fault)) (item_fault item p.at) (first_wrong (n + 1) (moved n p item) items)
+    if misplaced item p.at.context p.trials then Some (BadScript p.at.context.number n)
+    else option_map_or (λ fault. Some (error_of p.at.context.number n fault)) (item_fault item p.at) (first_wrong (n + 1) (moved n p item) items)

@@ -1,6 +1,7 @@
 // What is wrong with a unit before its items, and with a step.
 ghost use Rattle.std.specs.Prelude.{◌≡◌, ◌≢◌, None, Some, IfErr, OnErr, OnOk};
-ghost use Rattle.av1_cdf.specs.Tables.{first_broken, table_rules};
+ghost use Rattle.av1_cdf.specs.Tables.{table_rules};
+ghost use Rattle.av1_geometry.specs.Rules.{first_broken};
 ghost use Rattle.av1_unit.specs.Headline.{first_refusal, frame_rules};
 ghost use Rattle.av1_unit.specs.State.{tile_of};
 ghost use Rattle.av1_unit.specs.Step.{step_fault};

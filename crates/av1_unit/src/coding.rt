@@ -1,22 +1,24 @@
 // From the items of a script to the bytes of a tile.
-ghost use Rattle.std.specs.Prelude.{◌≡◌, ◌⊎◌, ℕ, ◌+◌, ◌*◌, ◌^◌, ◌≤◌, ◌∷◌, List, false, length, None, Some, IfOk, IfErr, OnOk};
+ghost use Rattle.std.specs.Prelude.{◌≡◌, ◌⊎◌, ℕ, ◌+◌, ◌*◌, ◌^◌, ◌≤◌, ◌∷◌, List, false, length, None, Some, IfOk, IfErr, OnOk, option_map};
 ghost use Rattle.av1_unit.specs.declared.error.UnitError.{UnitError};
 ghost use Rattle.av1_unit.specs.declared.error.UnitError.TheVariants.{OutOfMemory as MemoryError};
 ghost use Rattle.av1_unit.specs.declared.unit.Item.{Item};
 ghost use Rattle.av1_ec.specs.Recorder.{tokens_at};
 ghost use Rattle.av1_model.specs.Eighths.{eighths};
 ghost use Rattle.av1_model.specs.Interval.{whole, bits, final_bytes};
-ghost use Rattle.av1_model.specs.Position.{Position, advance_all, encoder_at};
+ghost use Rattle.av1_model.specs.Position.{advance_all, encoder_at};
 ghost use Rattle.av1_unit.specs.Coder.{IsNew, HasCoded};
+ghost use Rattle.av1_unit.specs.Framing.{given_of};
 ghost use Rattle.av1_unit.specs.Trials.{error_of, first_wrong};
-ghost use Rattle.av1_cdf.specs.Tables.{first_broken, table_rules};
+ghost use Rattle.av1_cdf.specs.Tables.{table_rules};
+ghost use Rattle.av1_geometry.specs.Rules.{first_broken};
 ghost use Rattle.av1_unit.specs.Headline.{started, begin, ending, frame_rules, trial_costs};
 
 use crate::check::check_step;
-use crate::tile::TileState;
+use crate::tile::{CurrentBlock, TileState};
 use crate::{Item, Place, StepFault, TileStep, TrialCost, Unit, UnitError, Via};
 use av1_ec::{
-    Writer, WriterBase, WriterCheckpoint, WriterEncoder, WriterRecorder, law_of_recorders,
+    Known, Writer, WriterBase, WriterCheckpoint, WriterEncoder, WriterRecorder, law_of_recorders,
 };
 use av1_geometry::{BlockOffset, OutOfMemory, Rule};
 use std::alloc::Global;
@@ -47,15 +49,14 @@ pub(crate) struct TileCoder<W> {
 }
 
 impl<W: Writer> TileCoder<W> {
-    ghost use Rattle.av1_unit.specs.Coder.{StandsAt};
-    ghost use Rattle.av1_unit.specs.Trials.{Progress, moved, moved_all, ended, misplaced, item_fault, strays, first_wrong, place_of};
-    ghost use Rattle.av1_cdf.specs.Tables.{first_broken};
+    ghost use Rattle.av1_unit.specs.Coder.{Stands, Knows, Proceeds};
+    ghost use Rattle.av1_unit.specs.Step.{place_of_block};
+    ghost use Rattle.av1_unit.specs.Trials.{moved, moved_all, ended, misplaced, item_fault, strays, first_wrong, place_of};
     ghost use Rattle.av1_unit.specs.declared.unit.Item.TheVariants.{Step, Begin, Keep, Abandon};
 
     // Whether a place lies in another superblock than the innermost trial.
     fn strays(&self, place: BlockOffset) -> bool
-        ensures { (start : Position) (n : ℕ) (p : Progress) → StandsAt start W.IsReached W.position_at n self.now.tile self.now.writer (W.position self.now.writer) (W.stored self.now.writer) self.now.marks.items self.now.costs.items p
-            → result ≡ strays p.trials (Some place) }
+        ensures { Knows W.Known self.now (λ p. result ≡ strays p.trials (Some place)) }
     {
         match self.marks.last() {
             Some(mark) => place.sb_offset() != mark.place.sb_offset(),
@@ -65,25 +66,27 @@ impl<W: Writer> TileCoder<W> {
 
     // The place of a step: its own, or the current block's.
     fn place_of(&self, step: &TileStep) -> Option<BlockOffset>
-        ensures { (start : Position) (n : ℕ) (p : Progress) → StandsAt start W.IsReached W.position_at n self.now.tile self.now.writer (W.position self.now.writer) (W.stored self.now.writer) self.now.marks.items self.now.costs.items p
-            → result ≡ place_of (Step step.now) p.at.context }
+        ensures { Knows W.Known self.now (λ p. result ≡ place_of (Step step.now) p.at.context) }
     {
         match step {
             TileStep::Block { x, y, .. } => Some(BlockOffset { x: *x, y: *y }),
-            TileStep::Skip { .. } => match self.tile.current() {
-                Some(block) => Some(BlockOffset {
-                    x: block.x,
-                    y: block.y,
-                }),
-                None => None,
-            },
+            TileStep::Skip { .. } => self.place_of_current(),
+        }
+    }
+
+    // The place of the current block.
+    fn place_of_current(&self) -> Option<BlockOffset>
+        ensures { Knows W.Known self.now (λ p. result ≡ option_map place_of_block p.at.context.current) }
+    {
+        match self.tile.current() {
+            Some(CurrentBlock { x, y, .. }) => Some(BlockOffset { x, y }),
+            None => None,
         }
     }
 
     // Whether an item can't come here: it ends no trial, or strays from the innermost one.
     fn is_misplaced(&self, item: &Item) -> bool
-        ensures { (start : Position) (n : ℕ) (p : Progress) → StandsAt start W.IsReached W.position_at n self.now.tile self.now.writer (W.position self.now.writer) (W.stored self.now.writer) self.now.marks.items self.now.costs.items p
-            → result ≡ misplaced item.now p.at.context p.trials }
+        ensures { Knows W.Known self.now (λ p. result ≡ misplaced item.now p.at.context p.trials) }
     {
         match item {
             Item::Step(step) => match self.place_of(step) {
@@ -97,8 +100,7 @@ impl<W: Writer> TileCoder<W> {
 
     // What is wrong with an item that may come here.
     fn check_item(&self, item: &Item) -> Option<StepFault>
-        ensures { (start : Position) (n : ℕ) (p : Progress) → StandsAt start W.IsReached W.position_at n self.now.tile self.now.writer (W.position self.now.writer) (W.stored self.now.writer) self.now.marks.items self.now.costs.items p
-            → result ≡ item_fault item.now p.at }
+        ensures { Knows W.Known self.now (λ p. result ≡ item_fault item.now p.at) }
     {
         match item {
             Item::Step(step) => check_step(&self.tile, self.writer.tell(), step),
@@ -109,8 +111,7 @@ impl<W: Writer> TileCoder<W> {
 
     // A trial begins at a place, by item `n`.
     fn begin(&mut self, alloc: Global, n: usize, place: BlockOffset) -> Result<(), OutOfMemory>
-        ensures { OnOk result ((start : Position) (p : Progress) → StandsAt start W.IsReached W.position_at n self.old.tile self.old.writer (W.position self.old.writer) (W.stored self.old.writer) self.old.marks.items self.old.costs.items p
-            → StandsAt start W.IsReached W.position_at (n + 1) self.new.tile self.new.writer (W.position self.new.writer) (W.stored self.new.writer) self.new.marks.items self.new.costs.items (moved n p (Begin record { 0 = place }))) }
+        ensures { OnOk result (Proceeds W.Known self.old self.new (λ p. moved n p (Begin record { 0 = place }))) }
     {
         let mark = TrialMark {
             place,
@@ -121,7 +122,7 @@ impl<W: Writer> TileCoder<W> {
             tile: self.tile.copy(alloc)?,
         };
         self.costs.push(TrialCost {
-            tile: 0,
+            tile: self.tile.number(),
             item: n,
             eighths: 0,
             kept: false,
@@ -132,13 +133,12 @@ impl<W: Writer> TileCoder<W> {
 
     // The innermost trial ends.
     fn end(&mut self, kept: bool)
-        requires { (start : Position) × (n : ℕ) × (p : Progress) × StandsAt start W.IsReached W.position_at n self.old.tile self.old.writer (W.position self.old.writer) (W.stored self.old.writer) self.old.marks.items self.old.costs.items p }
-        ensures { (start : Position) (n : ℕ) (p : Progress) → StandsAt start W.IsReached W.position_at n self.old.tile self.old.writer (W.position self.old.writer) (W.stored self.old.writer) self.old.marks.items self.old.costs.items p
-            → StandsAt start W.IsReached W.position_at (n + 1) self.new.tile self.new.writer (W.position self.new.writer) (W.stored self.new.writer) self.new.marks.items self.new.costs.items (ended kept p.at p.trials p.costs) }
+        requires { Stands W.Known self.old }
+        ensures { Proceeds W.Known self.old self.new (λ p. ended kept p.at p.trials p.costs) }
     {
         let Some(mark) = self.marks.pop() else { return };
         self.costs[mark.trial] = TrialCost {
-            tile: 0,
+            tile: self.tile.number(),
             item: mark.item,
             eighths: self.writer.tell_frac() - mark.eighths,
             kept,
@@ -151,22 +151,23 @@ impl<W: Writer> TileCoder<W> {
 
     // Takes item `n`, where it is in its place and breaks no rule.
     fn code_item(&mut self, alloc: Global, n: usize, item: &Item) -> Result<(), UnitError>
-        requires standing { (start : Position) × (p : Progress) × StandsAt start W.IsReached W.position_at n self.old.tile self.old.writer (W.position self.old.writer) (W.stored self.old.writer) self.old.marks.items self.old.costs.items p }
-        ensures ok { OnOk result ((start : Position) (p : Progress) → StandsAt start W.IsReached W.position_at n self.old.tile self.old.writer (W.position self.old.writer) (W.stored self.old.writer) self.old.marks.items self.old.costs.items p
-            → StandsAt start W.IsReached W.position_at (n + 1) self.new.tile self.new.writer (W.position self.new.writer) (W.stored self.new.writer) self.new.marks.items self.new.costs.items (moved n p item.now)) }
-        ensures right { OnOk result ((start : Position) (p : Progress) → StandsAt start W.IsReached W.position_at n self.old.tile self.old.writer (W.position self.old.writer) (W.stored self.old.writer) self.old.marks.items self.old.costs.items p
-            → (rest : List Item) → first_wrong n p (item.now ∷ rest) ≡ first_wrong (n + 1) (moved n p item.now) rest) }
-        ensures err { IfErr result (λ e. (e ≡ MemoryError) ⊎ ((start : Position) (p : Progress) → StandsAt start W.IsReached W.position_at n self.old.tile self.old.writer (W.position self.old.writer) (W.stored self.old.writer) self.old.marks.items self.old.costs.items p
-            → (rest : List Item) → first_wrong n p (item.now ∷ rest) ≡ Some e)) }
+        requires standing { Stands W.Known self.old }
+        ensures ok { OnOk result (Proceeds W.Known self.old self.new (λ p. moved n p item.now)) }
+        ensures right { OnOk result (Knows W.Known self.old (λ p. (rest : List Item) → first_wrong n p (item.now ∷ rest) ≡ first_wrong (n + 1) (moved n p item.now) rest)) }
+        ensures err { IfErr result (λ e. (e ≡ MemoryError) ⊎ Knows W.Known self.old (λ p. (rest : List Item) → first_wrong n p (item.now ∷ rest) ≡ Some e)) }
     {
+        let tile = self.tile.number();
         if self.is_misplaced(item) {
-            return Err(UnitError::BadScript { tile: 0, item: n });
+            return Err(UnitError::BadScript { tile, item: n });
         }
         if let Some(fault) = self.check_item(item) {
-            return Err(error_of(n, fault));
+            return Err(error_of(tile, n, fault));
         }
         match item {
-            Item::Step(step) => self.tile.write_step(&mut self.writer, step)?,
+            Item::Step(step) => {
+                self.tile.write_step(&mut self.writer, step)?;
+                self.tile.forget();
+            }
             Item::Begin(place) => self.begin(alloc, n, place.0)?,
             Item::Keep => self.end(true),
             Item::Abandon => self.end(false),
@@ -176,13 +177,10 @@ impl<W: Writer> TileCoder<W> {
 
     // Takes all items of a tile, at whose beginning this stands.
     fn code_items(&mut self, alloc: Global, items: &[Item]) -> Result<(), UnitError>
-        requires standing { (start : Position) × (p : Progress) × StandsAt start W.IsReached W.position_at 0 self.old.tile self.old.writer (W.position self.old.writer) (W.stored self.old.writer) self.old.marks.items self.old.costs.items p }
-        ensures ok { OnOk result ((start : Position) (p : Progress) → StandsAt start W.IsReached W.position_at 0 self.old.tile self.old.writer (W.position self.old.writer) (W.stored self.old.writer) self.old.marks.items self.old.costs.items p
-            → StandsAt start W.IsReached W.position_at (length items.now) self.new.tile self.new.writer (W.position self.new.writer) (W.stored self.new.writer) self.new.marks.items self.new.costs.items (moved_all 0 p items.now)) }
-        ensures right { OnOk result ((start : Position) (p : Progress) → StandsAt start W.IsReached W.position_at 0 self.old.tile self.old.writer (W.position self.old.writer) (W.stored self.old.writer) self.old.marks.items self.old.costs.items p
-            → first_wrong 0 p items.now ≡ None) }
-        ensures err { IfErr result (λ e. (e ≡ MemoryError) ⊎ ((start : Position) (p : Progress) → StandsAt start W.IsReached W.position_at 0 self.old.tile self.old.writer (W.position self.old.writer) (W.stored self.old.writer) self.old.marks.items self.old.costs.items p
-            → first_wrong 0 p items.now ≡ Some e)) }
+        requires standing { Stands W.Known self.old }
+        ensures ok { OnOk result (Proceeds W.Known self.old self.new (λ p. moved_all 0 p items.now)) }
+        ensures right { OnOk result (Knows W.Known self.old (λ p. first_wrong 0 p items.now ≡ None)) }
+        ensures err { IfErr result (λ e. (e ≡ MemoryError) ⊎ Knows W.Known self.old (λ p. first_wrong 0 p items.now ≡ Some e)) }
     {
         for (i, item) in items.iter().enumerate() {
             self.code_item(alloc, i, item)?;
@@ -191,18 +189,18 @@ impl<W: Writer> TileCoder<W> {
             Ok(())
         } else {
             Err(UnitError::BadScript {
-                tile: 0,
+                tile: self.tile.number(),
                 item: items.len(),
             })
         }
     }
 }
 
-// The error that says what is wrong with item `n`.
-fn error_of(n: usize, fault: StepFault) -> UnitError
-    ensures { result ≡ error_of n fault }
+// The error that says what is wrong with item `n` of a tile.
+fn error_of(tile: u32, n: usize, fault: StepFault) -> UnitError
+    ensures { result ≡ error_of tile n fault }
 {
-    let place = Place::Item { tile: 0, item: n };
+    let place = Place::Item { tile, item: n };
     match fault {
         StepFault::TooLong => UnitError::TooLong { place },
         StepFault::Broken(rule) => UnitError::Refused { place, rule },
@@ -226,11 +224,11 @@ pub(crate) fn code_by<W: Writer + Drop>(
     requires tables { first_broken (table_rules unit.now.tables) ≡ None }
     requires frame { first_broken (frame_rules unit.now) ≡ None }
     requires new { IsNew (W.position writer) }
-    ensures allowed { OnOk result (first_wrong 0 (started (begin unit.now)) unit.now.script ≡ None) }
+    ensures allowed { OnOk result (first_wrong 0 (started (begin (given_of unit.now) 0)) unit.now.script ≡ None) }
     ensures coded { IfOk result (λ r. HasCoded (W.position writer) (W.position r.0) (ending unit.now)) }
-    ensures few { OnOk result (eighths (ending unit.now) ≤ 8 * (2 ^ 28 + 14)) }
+    ensures few { OnOk result (eighths (ending unit.now) ≤ 8 * (2 ^ 28 + 2 ^ 24)) }
     ensures trials { IfOk result (λ r. r.1.items ≡ trial_costs unit.now) }
-    ensures err { IfErr result (λ e. (e ≡ MemoryError) ⊎ (first_wrong 0 (started (begin unit.now)) unit.now.script ≡ Some e)) }
+    ensures err { IfErr result (λ e. (e ≡ MemoryError) ⊎ (first_wrong 0 (started (begin (given_of unit.now) 0)) unit.now.script ≡ Some e)) }
 {
     let mut coder = TileCoder {
         tile: TileState::new(alloc, unit, 0)?,
@@ -249,11 +247,11 @@ fn replayed(
     alloc: Global,
     mut recorder: WriterBase<WriterRecorder>,
 ) -> Result<WriterBase<WriterEncoder>, OutOfMemory>
-    ensures { IfOk result (λ w. ⟦<WriterBase<WriterEncoder> as Writer>⟧.position w ≡ advance_all (encoder_at whole) (tokens_at (⟦<WriterBase<WriterRecorder> as Writer>⟧.position recorder))) }
+    ensures { IfOk result (λ w. ⟦<WriterBase<WriterEncoder> as Known>⟧.position w ≡ advance_all (encoder_at whole) (tokens_at (⟦<WriterBase<WriterRecorder> as Known>⟧.position recorder))) }
 {
     law_of_recorders(&recorder);
     let mut encoder = WriterEncoder::new(alloc);
-    recorder.replay(&mut encoder)?;
+    recorder.replay_into(&mut encoder)?;
     Ok(encoder)
 }
 
@@ -265,11 +263,11 @@ fn encode(
 ) -> Result<(WriterBase<WriterEncoder>, Vec<TrialCost>), UnitError>
     requires tables { first_broken (table_rules unit.now.tables) ≡ None }
     requires frame { first_broken (frame_rules unit.now) ≡ None }
-    ensures allowed { OnOk result (first_wrong 0 (started (begin unit.now)) unit.now.script ≡ None) }
-    ensures coded { IfOk result (λ r. ⟦<WriterBase<WriterEncoder> as Writer>⟧.position r.0 ≡ encoder_at (ending unit.now)) }
-    ensures few { OnOk result (eighths (ending unit.now) ≤ 8 * (2 ^ 28 + 14)) }
+    ensures allowed { OnOk result (first_wrong 0 (started (begin (given_of unit.now) 0)) unit.now.script ≡ None) }
+    ensures coded { IfOk result (λ r. ⟦<WriterBase<WriterEncoder> as Known>⟧.position r.0 ≡ encoder_at (ending unit.now)) }
+    ensures few { OnOk result (eighths (ending unit.now) ≤ 8 * (2 ^ 28 + 2 ^ 24)) }
     ensures trials { IfOk result (λ r. r.1.items ≡ trial_costs unit.now) }
-    ensures err { IfErr result (λ e. (e ≡ MemoryError) ⊎ (first_wrong 0 (started (begin unit.now)) unit.now.script ≡ Some e)) }
+    ensures err { IfErr result (λ e. (e ≡ MemoryError) ⊎ (first_wrong 0 (started (begin (given_of unit.now) 0)) unit.now.script ≡ Some e)) }
 {
     match via {
         Via::Direct => {
@@ -290,12 +288,12 @@ fn encode(
 pub(crate) fn code_tile(alloc: Global, unit: &Unit, via: Via) -> Result<CodedTile, UnitError>
     requires tables { first_broken (table_rules unit.now.tables) ≡ None }
     requires frame { first_broken (frame_rules unit.now) ≡ None }
-    ensures allowed { OnOk result (first_wrong 0 (started (begin unit.now)) unit.now.script ≡ None) }
+    ensures allowed { OnOk result (first_wrong 0 (started (begin (given_of unit.now) 0)) unit.now.script ≡ None) }
     ensures bytes { IfOk result (λ r. r.bytes.items ≡ final_bytes (ending unit.now)) }
     ensures bits { IfOk result (λ r. r.bits ≡ bits (ending unit.now)) }
     ensures trials { IfOk result (λ r. r.trials.items ≡ trial_costs unit.now) }
     ensures short { IfOk result (λ r. length r.bytes.items ≤ 2 ^ 26) }
-    ensures err { IfErr result (λ e. (e ≡ MemoryError) ⊎ (first_wrong 0 (started (begin unit.now)) unit.now.script ≡ Some e)) }
+    ensures err { IfErr result (λ e. (e ≡ MemoryError) ⊎ (first_wrong 0 (started (begin (given_of unit.now) 0)) unit.now.script ≡ Some e)) }
 {
     let (encoder, trials) = encode(alloc, unit, via)?;
     let bits = encoder.tell();

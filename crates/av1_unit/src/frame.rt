@@ -1,6 +1,6 @@
 // The frame of a unit, and its rules.
 ghost use Rattle.std.specs.Prelude.{◌≡◌, ◌≤◌, option_map};
-ghost use Rattle.av1_cdf.specs.Tables.{first_broken};
+ghost use Rattle.av1_geometry.specs.Rules.{first_broken};
 ghost use Rattle.av1_unit.specs.Header.{blocks_mi};
 ghost use Rattle.av1_unit.specs.Headline.{frame_rules};
 
@@ -19,7 +19,7 @@ const MAX_TILE_AREA: usize = 2304;
 /// The broken rule of the lowest number of a unit's frame: both sides are 1 to 65536 with at most 2^22 blocks of 4x4 (20),
 /// and one tile may hold it (34).
 pub fn check_frame(unit: &Unit) -> Option<Rule>
-    ensures { option_map (λ r. r.0) result ≡ first_broken (frame_rules unit.now) }
+    ensures { result ≡ first_broken (frame_rules unit.now) }
 {
     let (width, height) = (unit.width, unit.height);
     if width < 1 || width > MAX_SIDE || height < 1 || height > MAX_SIDE {

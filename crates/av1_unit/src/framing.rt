@@ -1,10 +1,10 @@
 // The OBUs of a unit (AV1 specification 5.3).
-ghost use Rattle.std.specs.Prelude.{◌≡◌, ◌^◌, ◌<◌, ◌≤◌, ◌++◌, length, IfOk, OnOk};
+ghost use Rattle.std.specs.Prelude.{◌≡◌, ◌^◌, ◌<◌, ◌≤◌, ◌++◌, [], ◌∷◌, length, IfOk, OnOk};
 ghost use Rattle.av1_model.specs.Bits.{IsByteAligned};
 ghost use Rattle.av1_model.specs.Codes.{leb128};
 ghost use Rattle.av1_model.specs.WholeBytes.{to_bytes};
 ghost use Rattle.av1_unit.specs.Header.{field_bits, obu_header_fields};
-ghost use Rattle.av1_unit.specs.Framing.{obu, sequence_payload, frame_payload, framed};
+ghost use Rattle.av1_unit.specs.Framing.{given_of, obu, sequence_payload, frame_payload, framed};
 
 use crate::Unit;
 use crate::header::{write_frame_header, write_obu_header, write_sequence_header};
@@ -23,7 +23,7 @@ pub(crate) fn frame_unit(alloc: Global, unit: &Unit, tile: &[u8]) -> Result<Vec<
     requires width { (1 ≤ unit.now.width) × (unit.now.width ≤ 65536) }
     requires height { (1 ≤ unit.now.height) × (unit.now.height ≤ 65536) }
     requires tile { length tile.now ≤ 2 ^ 26 }
-    ensures { IfOk result (λ v. v.items ≡ framed unit.now tile.now) }
+    ensures { IfOk result (λ v. v.items ≡ framed (given_of unit.now) (tile.now ∷ [])) }
 {
     let mut bytes = Vec::new(alloc);
     push_obu(alloc, &mut bytes, OBU_TEMPORAL_DELIMITER, &[])?;
@@ -75,7 +75,7 @@ fn whole_bytes(bits: BitWriter) -> Vec<u8>
 fn sequence_payload(alloc: Global, unit: &Unit) -> Result<Vec<u8>, OutOfMemory>
     requires width { (1 ≤ unit.now.width) × (unit.now.width ≤ 65536) }
     requires height { (1 ≤ unit.now.height) × (unit.now.height ≤ 65536) }
-    ensures { IfOk result (λ v. v.items ≡ sequence_payload unit.now) }
+    ensures { IfOk result (λ v. v.items ≡ sequence_payload (given_of unit.now)) }
 {
     let mut bits = BitWriter::new(alloc);
     write_sequence_header(&mut bits, unit.width, unit.height)?;
@@ -88,7 +88,7 @@ fn sequence_payload(alloc: Global, unit: &Unit) -> Result<Vec<u8>, OutOfMemory>
 fn frame_payload(alloc: Global, unit: &Unit, tile: &[u8]) -> Result<Vec<u8>, OutOfMemory>
     requires width { unit.now.width ≤ 65536 }
     requires height { unit.now.height ≤ 65536 }
-    ensures { IfOk result (λ v. v.items ≡ frame_payload unit.now tile.now) }
+    ensures { IfOk result (λ v. v.items ≡ frame_payload (given_of unit.now) (tile.now ∷ [])) }
 {
     let mut bits = BitWriter::new(alloc);
     write_frame_header(&mut bits, unit.width, unit.height)?;

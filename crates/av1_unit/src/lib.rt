@@ -11,6 +11,7 @@
 //! - `check`: what is wrong with a unit before its items, and with a step (`check_step`)
 //! - `frame`: the rules of a frame
 //! - `header`, `framing`: the bits of the headers, and the OBUs
+//! - `symbol`: one symbol
 //! - `report`, `error`: what is answered
 //! - `laws`: theorems of steps and of lists of steps
 #![tactic(auto)]
@@ -24,6 +25,7 @@ mod framing;
 mod header;
 mod laws;
 mod report;
+mod symbol;
 mod tile;
 mod unit;
 mod write;
@@ -31,7 +33,7 @@ mod write;
 pub use check::check_step;
 pub use error::{Place, StepFault, UnitError};
 pub use frame::check_frame;
-pub use laws::{law_of_reading_steps, law_of_steps};
+pub use laws::{law_of_read_steps, law_of_reading_steps, law_of_steps, law_of_written_units};
 pub use report::{Report, TileReport, TrialCost};
 pub use tile::{CurrentBlock, TileState};
 pub use unit::{Item, TileScript, TileStep, Unit, Via};

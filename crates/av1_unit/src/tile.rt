@@ -1,13 +1,15 @@
 // The state of a tile, which steps move on.
-ghost use Rattle.std.specs.Prelude.{◌≡◌, ◌&&◌, nat_lt, ◌+◌, ◌*◌, ◌^◌, ◌<◌, ◌≤◌, length, option_map, None, IsSome, IfOk, OnOk, OnErr};
+ghost use Rattle.std.specs.Prelude.{◌≡◌, ◌&&◌, nat_lt, ◌+◌, ◌*◌, ◌^◌, ◌<◌, ◌≤◌, [], ◌∷◌, length, is_some, true, None, IfOk, OnOk, OnErr};
 ghost use Rattle.std.specs.Option.{ForSome};
-ghost use Rattle.av1_model.specs.Position.{advance_all};
-ghost use Rattle.av1_ec.specs.Checkpoint.{KeepsCheckpoints};
+ghost use Rattle.av1_ec.specs.Moves.{Moves};
+ghost use Rattle.av1_ec.specs.Storing.{Keeps};
+ghost use Rattle.av1_cdf.specs.Log.{KeepsUndone};
 ghost use Rattle.av1_cdf.specs.Context.{AreCdfs};
 
 use crate::area::Area;
 use crate::frame::blocks_mi;
 use crate::header::BASE_Q_IDX;
+use crate::symbol::code_symbol;
 use crate::{TileStep, Unit};
 use av1_cdf::{CDFContext, CDFContextLog};
 use av1_ec::Writer;
@@ -28,6 +30,8 @@ pub struct CurrentBlock {
 /// (`write_step`).
 #[derive(Drop)]
 pub struct TileState {
+    // Which tile of the frame it is.
+    number: u32,
     cols: usize,
     rows: usize,
     fc: CDFContext,
@@ -43,12 +47,13 @@ pub struct TileState {
 }
 
 impl TileState {
-    ghost use Rattle.av1_unit.specs.State.{tile_of};
-    ghost use Rattle.av1_unit.specs.Tile.{fresh, skip_context, with_skip};
-    ghost use Rattle.av1_unit.specs.declared.unit.TileStep.TheVariants.{Skip};
-    ghost use Rattle.av1_unit.specs.Script.{tile_after, tokens_of};
-    ghost use Rattle.av1_cdf.specs.Tables.{first_broken};
-    ghost use Rattle.av1_unit.specs.Step.{rules, question_of, step_fault, IsBlock, IsSkip, entered_block};
+    ghost use Rattle.av1_unit.specs.State.{tile_of, log_of};
+    ghost use Rattle.av1_unit.specs.Writing.{WroteStep};
+    ghost use Rattle.av1_unit.specs.Tile.{fresh, skip_context, with_skip, with_numbers};
+    ghost use Rattle.av1_unit.specs.declared.unit.TileStep.TheVariants.{Block, Skip};
+    ghost use Rattle.av1_geometry.specs.Rules.{first_broken, rule};
+    ghost use Rattle.av1_unit.specs.Framing.{given_of};
+    ghost use Rattle.av1_unit.specs.Step.{rules, entered, step_fault, entered_block};
     ghost use Rattle.av1_cdf.specs.Tables.{table_rules};
     ghost use Rattle.av1_unit.specs.Headline.{begin, frame_rules};
 
@@ -57,28 +62,30 @@ impl TileState {
         requires tables { first_broken (table_rules unit.now.tables) ≡ None }
         requires frame { first_broken (frame_rules unit.now) ≡ None }
         requires tile { tile < 1 }
-        ensures { IfOk result (λ s. tile_of s ≡ (begin unit.now).context) }
+        ensures { IfOk result (λ s. tile_of s ≡ (begin (given_of unit.now) tile).context) }
     {
         let (cols, rows) = (blocks_mi(unit.width), blocks_mi(unit.height));
         let fc = CDFContext::new(&unit.tables, BASE_Q_IDX);
-        TileState::fresh(alloc, cols, rows, &fc)
+        TileState::fresh(alloc, tile as u32, cols, rows, fc)
     }
 
     // A tile before its first step, whose distributions start from these.
     pub(crate) fn fresh(
         alloc: Global,
+        number: u32,
         cols: usize,
         rows: usize,
-        fc: &CDFContext,
+        fc: CDFContext,
     ) -> Result<Self, OutOfMemory>
         requires few { cols * rows ≤ 2 ^ 22 }
-        requires cdfs { AreCdfs fc.now }
-        ensures { IfOk result (λ s. tile_of s ≡ fresh cols rows fc.now) }
+        requires cdfs { AreCdfs fc }
+        ensures { IfOk result (λ s. tile_of s ≡ fresh number cols rows fc) }
     {
         Ok(TileState {
+            number,
             cols,
             rows,
-            fc: fc.clone()?,
+            fc,
             fc_log: CDFContextLog::new(alloc),
             skips: vec![in alloc; false; cols * rows]?,
             current: None,
@@ -92,6 +99,7 @@ impl TileState {
         let mut skips = Vec::new(alloc);
         skips.extend_from_slice(&self.skips)?;
         Ok(TileState {
+            number: self.number,
             cols: self.cols,
             rows: self.rows,
             fc: self.fc.clone()?,
@@ -99,6 +107,13 @@ impl TileState {
             skips,
             current: self.current,
         })
+    }
+
+    // Which tile of the frame it is.
+    pub(crate) fn number(&self) -> u32
+        ensures { result ≡ (tile_of self.now).number }
+    {
+        self.number
     }
 
     /// The block that steps speak of.
@@ -117,7 +132,7 @@ impl TileState {
 
     // The first rule that a step breaks.
     pub(crate) fn broken_rule(&self, step: &TileStep) -> Option<Rule>
-        ensures { option_map (λ r. r.0) result ≡ first_broken (rules (question_of step.now) (tile_of self.now)) }
+        ensures { result ≡ first_broken (rules step.now (tile_of self.now)) }
     {
         match step {
             TileStep::Block { x, y, size } => self.check_block(*x, *y, *size),
@@ -126,7 +141,7 @@ impl TileState {
     }
 
     fn check_block(&self, x: usize, y: usize, size: BlockSize) -> Option<Rule>
-        ensures { option_map (λ r. r.0) result ≡ first_broken (rules (IsBlock x y size) (tile_of self.now)) }
+        ensures { result ≡ first_broken (rules (Block x y size) (tile_of self.now)) }
     {
         if x >= self.cols || y >= self.rows {
             return Some(Rule(60));
@@ -139,8 +154,9 @@ impl TileState {
         }
     }
 
+    // The only rule of a step of the current block: there is one.
     fn check_current(&self) -> Option<Rule>
-        ensures { option_map (λ r. r.0) result ≡ first_broken (rules IsSkip (tile_of self.now)) }
+        ensures { result ≡ first_broken (rule 64 (is_some (tile_of self.now).current) ∷ []) }
     {
         match self.current {
             Some(_) => None,
@@ -174,7 +190,8 @@ impl TileState {
     fn set_skip(&mut self, block: CurrentBlock, skip: bool)
         requires column { block.x < self.old.cols }
         requires row { block.y < self.old.rows }
-        ensures { tile_of self.new ≡ with_skip block skip (tile_of self.old) }
+        ensures tile { tile_of self.new ≡ with_skip block skip (tile_of self.old) }
+        ensures log { self.new.fc_log ≡ self.old.fc_log }
     {
         let area = Area {
             left: block.x,
@@ -189,49 +206,58 @@ impl TileState {
     fn enter_block(&mut self, block: CurrentBlock)
         requires column { block.x < self.old.cols }
         requires row { block.y < self.old.rows }
-        ensures { tile_of self.new ≡ entered_block block (tile_of self.old) }
+        ensures tile { tile_of self.new ≡ entered_block block (tile_of self.old) }
+        ensures log { self.new.fc_log ≡ self.old.fc_log }
     {
         self.set_skip(block, false);
         self.current = Some(block);
     }
 
+    // What steps changed in the context can no more be undone.
+    pub(crate) fn forget(&mut self)
+        ensures { tile_of self.new ≡ tile_of self.old }
+    {
+        self.fc_log.clear();
+    }
+
     // Codes the skip flag of the current block.
     fn write_skip<W: Writer>(&mut self, w: &mut W, skip: bool) -> Result<(), OutOfMemory>
-        requires current { IsSome self.old.current }
-        requires shift { (W.position w.old).shift + 13 ≤ 2 ^ 28 + 2 ^ 24 }
-        ensures tile { OnOk result (tile_of self.new ≡ tile_after (tile_of self.old) (Skip skip)) }
-        ensures writer { OnOk result (W.position w.new ≡ advance_all (W.position w.old) (tokens_of (Skip skip) (tile_of self.old))) }
-        ensures refused { OnErr result ((tile_of self.new ≡ tile_of self.old) × (W.position w.new ≡ W.position w.old)) }
-        ensures kept { KeepsCheckpoints W.stored W.IsReached W.position_at w.old w.new }
+        requires rules { first_broken (rules (Skip skip) (tile_of self.old)) ≡ None }
+        requires shift { (W.position w.old).shift + 2 ^ 24 ≤ 2 ^ 28 + 2 ^ 24 }
+        ensures wrote { WroteStep W.Known result (Skip skip) (tile_of self.old) w.old w.new self.new.fc }
+        ensures tile { OnOk result (tile_of self.new ≡ entered (Skip skip) (with_numbers self.new.fc (tile_of self.old))) }
+        ensures refused { OnErr result (tile_of self.new ≡ with_numbers self.new.fc (tile_of self.old)) }
+        ensures moves { Moves W.Known (2 ^ 24) w.old w.new self.old.fc_log self.new.fc_log self.old.fc self.new.fc }
     {
         let block = self.current.unwrap();
         let cdf = CDFContext::skip_cdfs(self.skip_context(block));
-        w.symbol_with_update(u32::from(skip), cdf, &mut self.fc_log, &mut self.fc)?;
-        self.fc_log.clear();
+        code_symbol(w, &mut self.fc, &mut self.fc_log, u32::from(skip), cdf)?;
         self.set_skip(block, skip);
         Ok(())
     }
 
-    /// Writes a step in which `check_step` finds no fault: the writer moves by the tokens of the step, and the state as its
-    /// answer says. A refusal leaves both as they were.
+    /// Writes a step in which `check_step` finds no fault: the writer and the numbers move by the symbols of the step, and the
+    /// state as its answer says. A refusal leaves them after a front of the symbols, and the rest of the state as it was. What was kept
+    /// to go back to stays in both cases, in the writer and in the log of the numbers.
     pub fn write_step<W: Writer>(&mut self, w: &mut W, step: &TileStep) -> Result<(), OutOfMemory>
         requires { step_fault (tile_of self.old) ((W.position w.old).shift + 1) step.now ≡ None }
-        ensures tile { OnOk result (tile_of self.new ≡ tile_after (tile_of self.old) step.now) }
-        ensures writer { OnOk result (W.position w.new ≡ advance_all (W.position w.old) (tokens_of step.now (tile_of self.old))) }
-        ensures refused { OnErr result ((tile_of self.new ≡ tile_of self.old) × (W.position w.new ≡ W.position w.old)) }
-        ensures kept { KeepsCheckpoints W.stored W.IsReached W.position_at w.old w.new }
+        ensures wrote { WroteStep W.Known result step.now (tile_of self.old) w.old w.new (tile_of self.new).numbers }
+        ensures tile { OnOk result (tile_of self.new ≡ entered step.now (with_numbers (tile_of self.new).numbers (tile_of self.old))) }
+        ensures refused { OnErr result (tile_of self.new ≡ with_numbers (tile_of self.new).numbers (tile_of self.old)) }
+        ensures kept { Keeps W.Known w.old w.new }
+        ensures undone { KeepsUndone (log_of self.old) (log_of self.new) (tile_of self.old).numbers (tile_of self.new).numbers }
     {
         self.write_allowed(w, step)
     }
 
     // Writes a step that breaks no rule and begins early enough.
     fn write_allowed<W: Writer>(&mut self, w: &mut W, step: &TileStep) -> Result<(), OutOfMemory>
-        requires rules { first_broken (rules (question_of step.now) (tile_of self.old)) ≡ None }
-        requires shift { (W.position w.old).shift + 13 ≤ 2 ^ 28 + 2 ^ 24 }
-        ensures tile { OnOk result (tile_of self.new ≡ tile_after (tile_of self.old) step.now) }
-        ensures writer { OnOk result (W.position w.new ≡ advance_all (W.position w.old) (tokens_of step.now (tile_of self.old))) }
-        ensures refused { OnErr result ((tile_of self.new ≡ tile_of self.old) × (W.position w.new ≡ W.position w.old)) }
-        ensures kept { KeepsCheckpoints W.stored W.IsReached W.position_at w.old w.new }
+        requires rules { first_broken (rules step.now (tile_of self.old)) ≡ None }
+        requires shift { (W.position w.old).shift + 2 ^ 24 ≤ 2 ^ 28 + 2 ^ 24 }
+        ensures wrote { WroteStep W.Known result step.now (tile_of self.old) w.old w.new self.new.fc }
+        ensures tile { OnOk result (tile_of self.new ≡ entered step.now (with_numbers self.new.fc (tile_of self.old))) }
+        ensures refused { OnErr result (tile_of self.new ≡ with_numbers self.new.fc (tile_of self.old)) }
+        ensures moves { Moves W.Known (2 ^ 24) w.old w.new self.old.fc_log self.new.fc_log self.old.fc self.new.fc }
     {
         match step {
             TileStep::Block { x, y, size } => {

@@ -2,7 +2,7 @@
 ghost use Rattle.std.specs.Prelude.{◌≡◌, ◌⊎◌, ℕ, ◌<◌, [], ◌∷◌, ◌^◌, length, take, Some, None, IfOk, IfErr, OnOk, IsErrOf};
 ghost use Rattle.av1_bits.specs.Outside.{Rose, appended};
 ghost use Rattle.av1_unit.specs.declared.error.UnitError.TheVariants.{OutOfMemory as MemoryError, SinkFault};
-ghost use Rattle.av1_unit.specs.Headline.{first_refusal, tile_report, IsWritten};
+ghost use Rattle.av1_unit.specs.Headline.{bytes_of, first_refusal, report_of, tile_report, IsWritten};
 
 use crate::check::check_unit;
 use crate::coding::{CodedTile, code_by, code_tile};
@@ -17,11 +17,14 @@ use std::alloc::Global;
 ///
 /// `Refused`, `BadScript` and `TooLong` come exactly where the first thing that is wrong with the unit is that rule at that
 /// place, that item of the script, or a step that would begin after too many bits, unless memory runs out before. It never
-/// answers `SinkFault`.
+/// answers `SinkFault`. Bytes and report are those of the unit, whichever way they are made.
 pub fn unit_bytes(alloc: Global, unit: &Unit, via: Via) -> Result<(Vec<u8>, Report), UnitError>
     ensures written { IfOk result (λ r. IsWritten unit.now r.0.items r.1) }
     ensures tiles { IfOk result (λ r. r.1.tiles ≡ tile_report unit.now ∷ []) }
+    ensures bytes { IfOk result (λ r. r.0.items ≡ bytes_of unit.now) }
+    ensures report { IfOk result (λ r. r.1 ≡ report_of unit.now) }
     ensures refused { IfErr result (λ e. (e ≡ MemoryError) ⊎ (first_refusal unit.now ≡ Some e)) }
+    ensures no_fault { ¬ IsErrOf result UnitError.SinkFault }
 {
     check_unit(unit)?;
     let tile = code_tile(alloc, unit, via)?;
@@ -65,6 +68,7 @@ pub fn count_tile(alloc: Global, unit: &Unit, tile: usize) -> Result<TileReport,
     ensures counted { IfOk result (λ r. r ≡ tile_report unit.now) }
     ensures valid { OnOk result (first_refusal unit.now ≡ None) }
     ensures refused { IfErr result (λ e. (e ≡ MemoryError) ⊎ (first_refusal unit.now ≡ Some e)) }
+    ensures no_fault { ¬ IsErrOf result UnitError.SinkFault }
 {
     check_unit(unit)?;
     let (counter, _) = code_by(alloc, unit, WriterCounter::new())?;

@@ -1,5 +1,0 @@
-pub mod Cause
-pub mod Run
-pub mod Shape
-pub mod Status
-pub mod Text

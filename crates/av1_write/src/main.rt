@@ -1,21 +1,9 @@
-//! JSON in, the bytes of an AV1 temporal unit as text out.
-//!
-//! - `run`: one run of the program
-//! - `shape`: the unit that a JSON text stands for
-//! - `status`: how the program ends
-//! - `text`: the text that tells the unit and its report
+//! The program: its words and its streams, handed to `av1_program`.
 #![tactic(auto)]
 
-mod run;
-mod shape;
-mod status;
-#[cfg(test)]
-mod tests;
-mod text;
-
-use crate::run::{run, tell};
-use crate::status::Status;
 use av1_bits::{StdSink, StdSource};
+use av1_program::run::{report_status, run};
+use av1_program::status::Status;
 use std::process::ExitCode;
 use std::{env, io};
 
@@ -38,7 +26,7 @@ fn main(rt: HostRuntime) -> ExitCode {
     let mut err = StdSink::new(rt.stderr());
     let status = match words(&rt) {
         Ok(words) => run(alloc, &words, &mut source, &mut out, &mut err),
-        Err(status) => tell(alloc, status, &mut err),
+        Err(status) => report_status(alloc, status, &mut err),
     };
     ExitCode::from(status.number())
 }

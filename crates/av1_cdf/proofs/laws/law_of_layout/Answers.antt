@@ -1,5 +1,3 @@
-use Rattle.std.proofs.Common.{refl}
-use Rattle.av1_cdf.specs.Layout.{slot}
 use Rattle.av1_cdf.proofs.Cells.{layout_rises, slot_within, slot_short, cell_of_slot, slots_apart}
 use Rattle.av1_cdf.proofs.laws.law_of_layout.Goals as goal
 
@@ -11,10 +9,6 @@ returns-clause-within c s h = let w = slot_within s.place s.len h in (w.1, slot_
 
 pub returns-clause-own_places : goal.returns-clause-own_places
 returns-clause-own_places c s k h u v = cell_of_slot s.place s.len k h u v
-
-pub returns-clause-lengths : goal.returns-clause-lengths
-unfolding slot
-returns-clause-lengths c name indices = refl
 
 pub returns-clause-apart : goal.returns-clause-apart
 returns-clause-apart c s t h k = slots_apart s t h k

@@ -17,4 +17,4 @@ pub returns-clause-between : goal.returns-clause-between
 returns-clause-between g c q low high r k from to = between_reads q low high r k from to
 
 pub returns-clause-golomb : goal.returns-clause-golomb
-returns-clause-golomb g c q = golomb_reads q
+returns-clause-golomb g c q most = golomb_reads q most

@@ -16,7 +16,7 @@ symbol_with_update-requires-clause-shift g c =
     let long = contents_long c.args.self.now.fc slot c.args.self.now.cdfs c.args.cdf.is_slot in
     let valid = c.args.self.now.cdfs.valid slot c.args.cdf.is_slot in
     let one_of : c.from.result < length numbers = omega (arith, long, c.requires.s) in
-    omega (arith, c.requires.shift, symbol_shift (g.W.Writer.position c.args.w.now) numbers c.from.result (g.met.W.Writer.valid c.args.w.now) valid one_of)
+    omega (arith, c.requires.shift, symbol_shift (g.W.Known.position c.args.w.now) numbers c.from.result (g.met.W.Writer.valid c.args.w.now) valid one_of)
 
 pub invariant_of-self-clause-cdfs : goal.invariant_of-self-clause-cdfs
 invariant_of-self-clause-cdfs g c =
@@ -38,4 +38,4 @@ returns-clause-shift g c =
     let long = contents_long c.args.self.now.fc slot c.args.self.now.cdfs c.args.cdf.is_slot in
     let valid = c.args.self.now.cdfs.valid slot c.args.cdf.is_slot in
     let one_of : c.from.result < length numbers = omega (arith, long, c.requires.s) in
-    stored_shift c.symbol_with_update.result _ _ _ c.symbol_with_update.ensures.ok c.symbol_with_update.ensures.err (symbol_shift (g.W.Writer.position c.args.w.now) numbers c.from.result (g.met.W.Writer.valid c.args.w.now) valid one_of)
+    stored_shift c.symbol_with_update.result _ _ _ c.symbol_with_update.ensures.ok c.symbol_with_update.ensures.err (symbol_shift (g.W.Known.position c.args.w.now) numbers c.from.result (g.met.W.Writer.valid c.args.w.now) valid one_of)

@@ -7,3 +7,4 @@ pub returns-then-place-end : goal.returns-then-place-end
 returns-then-place-end c =
     sym (name_here c.args.place _ _ _ c.loop-name-test.true c.if-start-place.true c.if-place-end.true)
     ∙ sym c.loop-name.invariant ∙ ap (λ es. name_at c.args.place (map entry_of es)) c.deref-name-items.ensures.value
+    ∙ ap (name_at c.args.place) c.self.view_is

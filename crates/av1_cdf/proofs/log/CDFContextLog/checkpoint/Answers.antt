@@ -1,9 +1,12 @@
-use Rattle.std.proofs.Common.{arith}
-use Rattle.av1_cdf.specs.Log.{saves_of}
-use Rattle.av1_cdf.proofs.Undoing.{stored_len, undone_all}
+use Rattle.std.proofs.Common.{drop, ap, ◌∙◌, arith}
+use Rattle.av1_cdf.specs.Log.{small_saves, large_saves}
+use Rattle.av1_cdf.specs.Part.{undone_part}
+use Rattle.av1_cdf.proofs.Undoing.{undone_all}
 use Rattle.av1_cdf.proofs.log.CDFContextLog.checkpoint.Goals as goal
 
 pub returns-clause-undone : goal.returns-clause-undone
 returns-clause-undone c context =
-    let log = c.args.self.now in
-    undone_all (saves_of log) context log.len (omega (arith, stored_len log))
+    let small = small_saves c.args.self.now in
+    let large = large_saves c.args.self.now in
+    ap (undone_part 16 (drop c.len-2.result large)) (undone_all 4 small context c.len.result (omega (arith, c.len.ensures)))
+    ∙ undone_all 16 large context c.len-2.result (omega (arith, c.len-2.ensures))

@@ -1,28 +1,32 @@
-use Rattle.std.proofs.Common.{◌≡◌, ◌+◌, ◌-◌, take, drop, ap, sym, ◌∙◌, arith}
-use Rattle.av1_cdf.specs.Log.{saves_of, undone_by}
-use Rattle.av1_cdf.proofs.Undoing.{stored_len, undo_step, undone_all}
+use Rattle.std.proofs.Common.{IsTrue, take, drop, lit<, subst, sym, ap, ◌∙◌}
+use Rattle.av1_cdf.specs.Log.{small_saves, large_saves}
+use Rattle.av1_cdf.specs.Part.{undone_part}
+use Rattle.av1_cdf.specs.Windows.{short_windows, long_windows, all_short, all_long}
+use Rattle.av1_cdf.proofs.Undoing.{all_take, short_fit, long_fit, rolled_back}
 use Rattle.av1_cdf.proofs.log.CDFContextLog.rollback.Goals as goal
 
-pub loop-self-preserved : goal.loop-self-preserved
-loop-self-preserved c =
-    let log = c.loop-self.self in
-    let saves = log.saves.items in
-    let before = c.loop-self.fc in
-    let j = log.len - 1 in
-    let on : j + 1 ≡ log.len = omega arith in
+pub undo-requires : goal.undo-requires
+undo-requires c = (lit< tt, (c.requires.0, short_fit (small_saves c.args.self.now) c.args.self.now.short))
+
+pub undo-requires-2 : goal.undo-requires-2
+undo-requires-2 c = (lit< tt, (c.requires.1, long_fit (large_saves c.args.self.now) c.args.self.now.long))
+
+pub invariant_of-self : goal.invariant_of-self
+invariant_of-self c =
+    let log = c.args.self.now in
+    let to = c.args.checkpoint.now in
     record {
-      least = omega arith;
-      most = omega (arith, c.loop-self.invariant.most);
-      saves = c.loop-self.invariant.saves;
-      same = λ m h.
-          ap (undone_by (drop m (take j saves))) c.restore.ensures
-          ∙ sym (undo_step saves before j c.index.result.now (omega (arith, log.within)) (sym c.index.ensures) m (omega arith))
-          ∙ ap (λ n. undone_by (drop m (take n saves)) before) on
-          ∙ c.loop-self.invariant.same m h;
+      short = subst (λ xs. IsTrue (all_short xs)) (sym c.undo.ensures.cut) (all_take (λ s. short_windows s.place s.place) to.small (small_saves log) log.short);
+      long = subst (λ xs. IsTrue (all_long xs)) (sym c.undo-2.ensures.cut) (all_take (λ s. long_windows s.place s.place) to.large (large_saves log) log.long);
     }
 
-pub returns-clause-context : goal.returns-clause-context
-returns-clause-context c =
-    let log = c.loop-self.self in
-    let n = c.args.checkpoint.now.saves in
-    sym (undone_all (saves_of log) c.loop-self.fc n (omega (arith, stored_len log))) ∙ c.loop-self.invariant.same n (omega arith)
+pub returns-clause-kept : goal.returns-clause-kept
+returns-clause-kept c d w =
+    let log = c.args.self.now in
+    let to = c.args.checkpoint.now in
+    let small = take to.small (small_saves log) in
+    let large = take to.large (large_saves log) in
+    ap (λ xs. undone_part 16 (drop d.large xs) (undone_part 4 (drop d.small c.undo.new.self.saves.items) c.undo-2.new.fc)) c.undo-2.ensures.cut
+    ∙ ap (λ xs. undone_part 16 (drop d.large large) (undone_part 4 (drop d.small xs) c.undo-2.new.fc)) c.undo.ensures.cut
+    ∙ ap (λ x. undone_part 16 (drop d.large large) (undone_part 4 (drop d.small small) x)) (c.undo-2.ensures.undone ∙ ap (undone_part 16 (drop to.large (large_saves log))) c.undo.ensures.undone)
+    ∙ rolled_back log c.args.fc.now d to w c.requires

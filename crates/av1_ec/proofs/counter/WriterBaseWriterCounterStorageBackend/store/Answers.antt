@@ -1,4 +1,4 @@
-use Rattle.std.proofs.Common.{refl}
+use Rattle.std.proofs.Common.{refl, rules}
 use Rattle.av1_ec.specs.Counter.{counter_position}
 use Rattle.av1_ec.proofs.Counting.{count_of, counted}
 use Rattle.av1_ec.proofs.counter.WriterBaseWriterCounterStorageBackend.store.Goals as goal
@@ -11,7 +11,13 @@ pub invariant_of-self-clause-window : goal.invariant_of-self-clause-window
 invariant_of-self-clause-window c =
     ∣ (counted c.args.self.now.rng c.args.self.now.s.bits _ _ record { fl = c.args.fl; fh = c.args.fh; nms = c.args.nms } (count_of _ _ c.args.self.now.window).interval c.requires.token c.lr_compute-width.ensures.width refl c.requires.shift).count ∣₁
 
-pub returns-clause-ok : goal.returns-clause-ok
-returns-clause-ok c =
+pub returns : goal.returns
+returns c =
     let s = counted c.args.self.now.rng c.args.self.now.s.bits _ _ record { fl = c.args.fl; fh = c.args.fh; nms = c.args.nms } (count_of _ _ c.args.self.now.window).interval c.requires.token c.lr_compute-width.ensures.width refl c.requires.shift in
-    λ k. counter_position (s.range_is k) (s.bits_is k) c.args.self.now.fake_bits_frac
+    record {
+      ok = λ k. counter_position (s.range_is k) (s.bits_is k) c.args.self.now.fake_bits_frac;
+      err = search rules;
+      room = search rules;
+      spare = search rules;
+      kept = search rules;
+    }

@@ -1,4 +1,7 @@
-use Rattle.std.proofs.Common.{refl, arith, to_z, of_z, w16}
+use Rattle.std.proofs.Common.{◌≡◌, ◌∙◌, ap, refl, arith, rules, length, take, vec_len, to_z, of_z, w16}
+use Rattle.av1_ec.specs.Checkpoint.{reach}
+use Rattle.av1_ec.specs.Encoder.{encoder_position}
+use Rattle.av1_ec.proofs.Growing.{longer, same_front, still_begun}
 use Rattle.av1_ec.proofs.Encoding.{encoding_of, part_below, part_fits, doublings_fit, stored, count_kept}
 use Rattle.av1_ec.proofs.encoder.WriterBaseWriterEncoderStorageBackend.store.Goals as goal
 
@@ -39,9 +42,22 @@ invariant_of-self-2-clause-window c =
     (count_kept _ _ c.count_of-self.type_inv c.count_of-self.ensures.is) c.in_ok-make_room.ensures.ok c.requires.shift in
     ∣ s.encoding ∣₁
 
-pub returns-clause-ok : goal.returns-clause-ok
-returns-clause-ok c =
+pub returns : goal.returns
+returns c =
     let s = stored _ _ _ _ _ _ _ _ _ _ c.args.self.now.fake_bits_frac _ (to_z w16 (of_z w16 c.count_of-self.result)) record { fl = c.args.fl; fh = c.args.fh; nms = c.args.nms }
     (encoding_of _ _ _ _ c.args.self.now.window) c.requires.token c.lr_compute-above.ensures.above c.lr_compute-above.ensures.width refl c.weight-weight.ensures.is
     (count_kept _ _ c.count_of-self.type_inv c.count_of-self.ensures.is) c.in_ok-make_room.ensures.ok c.requires.shift in
-    s.position
+    let entries = c.args.self.now.s.precarry.items in
+    let all : length entries ≡ vec_len c.args.self.now.s.precarry = search rules in
+    let begins : take (length entries) c.make_room.new.precarry.items ≡ entries = ap (λ n. take n c.make_room.new.precarry.items) all ∙ c.in_ok-make_room.ensures.begins in
+    record {
+      ok = s.position;
+      err = search rules;
+      room = search rules;
+      spare = search rules;
+      kept = record {
+        more = longer entries c.make_room.new.precarry.items begins;
+        reached = λ k h. still_begun entries c.make_room.new.precarry.items k begins h;
+        same = λ k h. ap (λ es. encoder_position es k.backend_var k.rng k.cnt c.args.self.now.fake_bits_frac) (same_front entries c.make_room.new.precarry.items (reach k) begins h.there);
+      };
+    }

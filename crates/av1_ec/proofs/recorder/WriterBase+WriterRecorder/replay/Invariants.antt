@@ -6,9 +6,8 @@ use Rattle.av1_ec.proofs.recorder.WriterBase+WriterRecorder.replay.Given as goal
 
 abbrev pub invariant-loop-token : goal.invariant-loop-token
 invariant-loop-token g l =
-    let d = g.D.StorageBackend in
     record {
-      stored : d.position l.dest ≡ advance_all (d.position l.fn.dest) (take l.token-index (tokens_in l.fn.self.s.storage.items));
-      room : d.spare l.fn.dest ≤ d.spare l.dest + l.token-index;
-      kept : KeepsCheckpoints d.stored d.IsReached d.position_at l.fn.dest l.dest;
+      stored : (goal.StorageBackend-dyn g l.dest.now).Known.position l.dest.now.1 ≡ advance_all ((goal.StorageBackend-dyn g l.fn.dest.now).Known.position l.fn.dest.now.1) (take l.token-index (tokens_in l.fn.self.s.storage.items));
+      room : (goal.StorageBackend-dyn g l.fn.dest.now).Known.spare l.fn.dest.now.1 ≤ (goal.StorageBackend-dyn g l.dest.now).Known.spare l.dest.now.1 + l.token-index;
+      kept : KeepsCheckpoints (λ z. (goal.StorageBackend-dyn g z).Known.stored z.1) (λ z. (goal.StorageBackend-dyn g z).Known.IsReached z.1) (λ z. (goal.StorageBackend-dyn g z).Known.position_at z.1) l.fn.dest.now l.dest.now;
     }

@@ -9,8 +9,8 @@ use Rattle.av1_unit.proofs.Coded.{told_bits}
 use Rattle.av1_unit.proofs.coding.TileCoder.check_item.Goals as goal
 
 pub returns-in-Step : goal.returns-in-Step
-returns-in-Step g c start n p s =
+returns-in-Step g c start p s =
     c.check_step.ensures
-    ∙ ap (λ (k : ℕ). step_fault (tile_of c.args.self.now.tile) k c.in-Step.step) (c.tell.ensures ∙ told_bits start (g.W.Writer.position c.args.self.now.writer) p.at.interval s.coded)
+    ∙ ap (λ (k : ℕ). step_fault (tile_of c.args.self.now.tile) k c.in-Step.step) (c.tell.ensures ∙ told_bits start (g.W.Known.position c.args.self.now.writer) p.at.interval s.coded)
     ∙ ap (λ (t : Tile). step_fault t (bits p.at.interval) c.in-Step.step) s.tile_is
     ∙ ap (λ (i : Item). item_fault i p.at) (sym c.in-Step.is)

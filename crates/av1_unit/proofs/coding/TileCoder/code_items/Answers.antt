@@ -15,7 +15,7 @@ loop-i-preserved g c start p s =
     let there : i < length items = omega arith in
     let come = c.loop-i.invariant start p s in
     let done = c.in_ok-code_item.ensures in
-    come_more start g.W.Writer.IsReached g.W.Writer.position_at p items i _ c.code_item.new.self.tile c.code_item.new.self.writer (g.W.Writer.position c.code_item.new.self.writer) (g.W.Writer.stored c.code_item.new.self.writer)
+    come_more start g.W.Known.IsReached g.W.Known.position_at p items i _ c.code_item.new.self.tile c.code_item.new.self.writer (g.W.Known.position c.code_item.new.self.writer) (g.W.Known.stored c.code_item.new.self.writer)
     c.code_item.new.self.marks.items c.code_item.new.self.costs.items there (get_or_default items i _ _ there) come.wrong (done.ok start _ come.stands) (done.right start _ come.stands)
 
 pub returns-in_err-code_item-clause-err : goal.returns-in_err-code_item-clause-err
@@ -24,11 +24,11 @@ returns-in_err-code_item-clause-err g c =
     let i = c.loop-i.i in
     let there : i < length items = omega arith in
     let e = c.in_err-code_item.field-0.0 in
-    let wrong : (start : Position) (p : Progress) (s : StandsAt start g.W.Writer.IsReached g.W.Writer.position_at 0 c.args.self.now.tile c.args.self.now.writer (g.W.Writer.position c.args.self.now.writer) (g.W.Writer.stored c.args.self.now.writer) c.args.self.now.marks.items c.args.self.now.costs.items p)
-    → ((begin : Position) (q : Progress) → StandsAt begin g.W.Writer.IsReached g.W.Writer.position_at i c.loop-i.self.tile c.loop-i.self.writer (g.W.Writer.position c.loop-i.self.writer) (g.W.Writer.stored c.loop-i.self.writer) c.loop-i.self.marks.items c.loop-i.self.costs.items q → (rest : List Item) → first_wrong i q (get_or items i _ ∷ rest) ≡ Some e)
+    let wrong : (start : Position) (p : Progress) (s : StandsAt start g.W.Known.IsReached g.W.Known.position_at c.args.self.now.tile c.args.self.now.writer (g.W.Known.position c.args.self.now.writer) (g.W.Known.stored c.args.self.now.writer) c.args.self.now.marks.items c.args.self.now.costs.items p)
+    → ((begin : Position) (q : Progress) → StandsAt begin g.W.Known.IsReached g.W.Known.position_at c.loop-i.self.tile c.loop-i.self.writer (g.W.Known.position c.loop-i.self.writer) (g.W.Known.stored c.loop-i.self.writer) c.loop-i.self.marks.items c.loop-i.self.costs.items q → (rest : List Item) → first_wrong i q (get_or items i _ ∷ rest) ≡ Some e)
     → first_wrong 0 p items ≡ Some e =
     λ start p s here. let come = c.loop-i.invariant start p s in wrong_here p items i _ e there (get_or_default items i _ _ there) come.wrong (here start (moved_all 0 p (take i items)) come.stands) in
-    let told : (e ≡ OutOfMemory) ⊎ ((start : Position) (p : Progress) → StandsAt start g.W.Writer.IsReached g.W.Writer.position_at 0 c.args.self.now.tile c.args.self.now.writer (g.W.Writer.position c.args.self.now.writer) (g.W.Writer.stored c.args.self.now.writer) c.args.self.now.marks.items c.args.self.now.costs.items p → first_wrong 0 p items ≡ Some e) =
+    let told : (e ≡ OutOfMemory) ⊎ ((start : Position) (p : Progress) → StandsAt start g.W.Known.IsReached g.W.Known.position_at c.args.self.now.tile c.args.self.now.writer (g.W.Known.position c.args.self.now.writer) (g.W.Known.stored c.args.self.now.writer) c.args.self.now.marks.items c.args.self.now.costs.items p → first_wrong 0 p items ≡ Some e) =
     elim c.in_err-code_item.ensures.err [
       | inl m ↦ inl m
       | inr here ↦ inr (λ start p s. wrong start p s here)
@@ -39,8 +39,8 @@ returns-in_err-code_item-clause-err g c =
 pub returns-then-is_empty-clause-right : goal.returns-then-is_empty-clause-right
 returns-then-is_empty-clause-right g c start p s =
     let come = c.loop-i.invariant start p s in
-    ended_right start g.W.Writer.IsReached g.W.Writer.position_at p c.args.items.now c.loop-i.i _ c.loop-i.self.writer _ _ c.loop-i.self.marks.items _ come (omega arith) (search rules)
+    ended_right start g.W.Known.IsReached g.W.Known.position_at p c.args.items.now c.loop-i.i _ c.loop-i.self.writer _ _ c.loop-i.self.marks.items _ come (omega arith) (search rules)
 
 pub returns-else-is_empty-clause-err : goal.returns-else-is_empty-clause-err
 returns-else-is_empty-clause-err g c =
-    inr (λ start p s. ended_wrong start g.W.Writer.IsReached g.W.Writer.position_at p c.args.items.now c.loop-i.i _ c.loop-i.self.writer _ _ c.loop-i.self.marks.items _ (c.loop-i.invariant start p s) (omega arith) (search rules))
+    rw (c.number.ensures) (inr (λ start p s. ended_wrong start g.W.Known.IsReached g.W.Known.position_at p c.args.items.now c.loop-i.i _ c.loop-i.self.writer _ _ c.loop-i.self.marks.items _ (c.loop-i.invariant start p s) (omega arith) (search rules)))

@@ -6,10 +6,10 @@ use Rattle.av1_model.specs.Eighths.{eighths}
 use Rattle.av1_unit.proofs.coding.TileCoder.strays.Goals as goal
 
 pub returns-in-Some : goal.returns-in-Some
-returns-in-Some g c start n p s =
+returns-in-Some g c start p s =
     let w = c.args.self.now.writer in
     let last = rw (c.deref.ensures.value) at c.in-Some.ensures.item in
     let here = ends_in c.args.self.now.marks.items c.in-Some.mark.now last.3.0 last.1 in
-    let marks = subst (λ (l : List TrialMark). AreMarks start g.W.Writer.IsReached g.W.Writer.position_at w (g.W.Writer.stored w) (eighths p.at.interval) l p.trials p.costs) here.1 s.marks_are in
+    let marks = subst (λ (l : List TrialMark). AreMarks start g.W.Known.IsReached g.W.Known.position_at w (g.W.Known.stored w) (eighths p.at.interval) l p.trials p.costs) here.1 s.marks_are in
     let ne = rw (c.sb_offset.ensures.x, c.sb_offset.ensures.y, c.sb_offset-in-Some.ensures.x, c.sb_offset-in-Some.ensures.y) at c.ne.ensures in
-    ne ∙ sym (strays_is start g.W.Writer.IsReached g.W.Writer.position_at w (g.W.Writer.stored w) (eighths p.at.interval) here.0 c.in-Some.mark.now p.trials p.costs c.args.place marks)
+    ne ∙ sym (strays_is start g.W.Known.IsReached g.W.Known.position_at w (g.W.Known.stored w) (eighths p.at.interval) here.0 c.in-Some.mark.now p.trials p.costs c.args.place marks)

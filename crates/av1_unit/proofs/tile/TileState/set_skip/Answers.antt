@@ -4,8 +4,8 @@ use Rattle.av1_unit.specs.State.{tile_of, flag_at}
 use Rattle.av1_unit.proofs.Grid.{flags_set}
 use Rattle.av1_unit.proofs.tile.TileState.set_skip.Goals as goal
 
-pub returns : goal.returns
-returns c =
+pub returns-clause-tile : goal.returns-clause-tile
+returns-clause-tile c =
     let s = c.args.self.now in
     let filled = rw (c.deref_mut.ensures.value, c.min.ensures, c.min-2.ensures, c.width_mi.ensures.value, c.height_mi.ensures.value) at c.fill.ensures in
     let same_length : length c.fill.new.flags ≡ s.skips.len = c.fill.auto.flags ∙ ap (λ (xs : List Bool). length xs) c.deref_mut.ensures.value ∙ sym s.skips.ok.0 in

@@ -1,0 +1,5 @@
+pub mod Cause
+pub mod Run
+pub mod Shape
+pub mod Status
+pub mod Text

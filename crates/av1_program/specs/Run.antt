@@ -1,0 +1,132 @@
+-- What a run of the program reads and sends.
+use Rattle.std.specs.Prelude.{◌≡◌, ℕ, ◌+◌, ◌^◌, ◌<◌, ◌≤◌, ◌⊎◌, MatchBool, nat_lt, List, [], ◌∷◌, length, take, codes, string_bytes, Option, Some, None}
+use Rattle.av1_bits.specs.Outside.{Rose, Still, Takes, appended}
+use Rattle.av1_geometry.specs.declared.error.Rule.{Rule}
+use Rattle.av1_unit.specs.declared.error.Place.{Place}
+use Rattle.av1_unit.specs.declared.error.UnitError.{UnitError}
+use Rattle.av1_unit.specs.declared.error.UnitError.TheVariants as errors
+use Rattle.av1_unit.specs.declared.unit.Unit as declared
+use Rattle.av1_unit.specs.declared.unit.Via.{Via}
+use Rattle.av1_unit.specs.Headline.{IsWritten, first_refusal}
+use Rattle.av1_unit.specs.Report.{ReportLists}
+use Rattle.av1_program.specs.declared.status.Status.{Status}
+use Rattle.av1_program.specs.declared.status.Status.TheVariants.{Sent, Usage, SourceFault, TooLarge, BadText, BadShape, Refused, BadScript, TooLong, SinkFault, OutOfMemory}
+use Rattle.av1_program.specs.Shape.{Shape, NoReading, Unfit, Fits, shape}
+use Rattle.av1_program.specs.Status.{IsBadShape, of_unit_error}
+use Rattle.av1_program.specs.Text.{unit_text}
+
+-- the one word that the program knows
+abbrev pub IsWrite : List (List ℕ) → Type 0
+IsWrite words = words ≡ codes "write" ∷ []
+
+-- The text tells the bytes and the report of a unit that the input stands for.
+pub record IsTextOf (input text : List ℕ) : Type 0 where
+  pub unit : declared.Unit
+  pub via : Via
+  pub bytes : List ℕ
+  pub report : ReportLists
+  pub fits : shape input ≡ Fits (unit, via)
+  pub written : IsWritten unit bytes report
+  pub told : text ≡ unit_text bytes report
+
+-- the unit that the input stands for breaks this rule at this place, and nothing before it is wrong
+pub record IsRefused (place : Place) (rule : Rule) (input : List ℕ) : Type 0 where
+  pub unit : declared.Unit
+  pub via : Via
+  pub fits : shape input ≡ Fits (unit, via)
+  pub refusal : first_refusal unit ≡ Some (errors.Refused place rule)
+
+-- the script of the unit that the input stands for is bad at this item, and nothing before it is wrong
+pub record HasBadScript (tile item : ℕ) (input : List ℕ) : Type 0 where
+  pub unit : declared.Unit
+  pub via : Via
+  pub fits : shape input ≡ Fits (unit, via)
+  pub refusal : first_refusal unit ≡ Some (errors.BadScript tile item)
+
+-- the unit that the input stands for has a step here that would begin after too many bits, and nothing before it is wrong
+pub record IsTooLong (place : Place) (input : List ℕ) : Type 0 where
+  pub unit : declared.Unit
+  pub via : Via
+  pub fits : shape input ≡ Fits (unit, via)
+  pub refusal : first_refusal unit ≡ Some (errors.TooLong place)
+
+-- the unit that the input stands for is valid
+pub record IsValid (input : List ℕ) : Type 0 where
+  pub unit : declared.Unit
+  pub via : Via
+  pub fits : shape input ≡ Fits (unit, via)
+  pub valid : first_refusal unit ≡ None
+
+-- The source was read to its end, and of the input P holds: of all bytes that were left, where the source tells them.
+pub record Reads (before after : Option (List ℕ)) (P : List ℕ → Type 0) : Type 0 where
+  pub input : List ℕ
+  pub all : (bytes : List ℕ) → before ≡ Some bytes → (input ≡ bytes) × (after ≡ Some [])
+  pub allowed : length input ≤ 2 ^ 26
+  pub is : P input
+
+-- more bytes were taken than an input may have: at most a last piece more
+abbrev pub TakesMore : Option (List ℕ) → Option (List ℕ) → Type 0
+TakesMore before after = (k : ℕ) × (2 ^ 26 < k) × (k ≤ 2 ^ 26 + 8192) × Takes k before after
+
+-- no more bytes were taken than an input may have
+abbrev pub TakesAtMost : Option (List ℕ) → Option (List ℕ) → Type 0
+TakesAtMost before after = (k : ℕ) × (k ≤ 2 ^ 26) × Takes k before after
+
+-- a front of the text was sent
+abbrev pub IsSentFront : Option (List ℕ) → Option (List ℕ) → List ℕ → Type 0
+IsSentFront before after text = (k : ℕ) × (k ≤ length text) × (after ≡ appended before (take k text))
+
+-- a sink received the text of this input, or a front of it
+pub record Receives (before after : Option (List ℕ)) (input : List ℕ) : Type 0 where
+  pub text : List ℕ
+  pub is : IsTextOf input text
+  pub received : after ≡ appended before text
+
+pub record ReceivesFront (before after : Option (List ℕ)) (input : List ℕ) : Type 0 where
+  pub text : List ℕ
+  pub is : IsTextOf input text
+  pub received : IsSentFront before after text
+
+-- A run was given the word, and a source that tells this input and didn't fail.
+pub record IsGiven (words : List (List ℕ)) (input : List ℕ) (before : Option (List ℕ)) (old new : ℕ) : Type 0 where
+  pub word : IsWrite words
+  pub told : before ≡ Some input
+  pub no_fault : Still old new
+
+-- why an input has no text, by the status
+abbrev pub IsRefusal : Status → List ℕ → Type 0
+IsRefusal BadText input = shape input ≡ NoReading
+IsRefusal (BadShape path) input = shape input ≡ Unfit (string_bytes path)
+IsRefusal (Refused place rule) input = IsRefused place rule input
+IsRefusal (BadScript tile item) input = HasBadScript tile item input
+IsRefusal (TooLong place) input = IsTooLong place input
+IsRefusal OutOfMemory input = Unit {0}
+IsRefusal _ input = ⊥
+
+-- why a run makes no text, by its status: of the words, what the source had left before and after, and its count of faults
+abbrev pub Explains : Status → List (List ℕ) → Option (List ℕ) → Option (List ℕ) → ℕ → ℕ → Type 0
+Explains Usage words before after old new = ¬ IsWrite words
+Explains SourceFault words before after old new = Rose old new
+Explains TooLarge words before after old new = TakesMore before after
+Explains BadText words before after old new = Reads before after (IsRefusal BadText)
+Explains (BadShape path) words before after old new = Reads before after (IsRefusal (BadShape path))
+Explains (Refused place rule) words before after old new = Reads before after (IsRefusal (Refused place rule))
+Explains (BadScript tile item) words before after old new = Reads before after (IsRefusal (BadScript tile item))
+Explains (TooLong place) words before after old new = Reads before after (IsRefusal (TooLong place))
+Explains OutOfMemory words before after old new = Unit {0}
+Explains _ words before after old new = ⊥
+
+-- the status of a unit by what is wrong with it: where nothing is, all is sent or the sink fails
+abbrev pub IsVerdict : Option UnitError → Status → Type 0
+IsVerdict None status = (status ≡ Sent) ⊎ (status ≡ SinkFault)
+IsVerdict (Some error) status = status ≡ of_unit_error error
+
+-- the status of a text by its shape
+abbrev pub IsAnswerTo : Shape → Status → Type 0
+IsAnswerTo NoReading status = status ≡ BadText
+IsAnswerTo (Unfit path) status = IsBadShape path status
+IsAnswerTo (Fits found) status = IsVerdict (first_refusal found.0) status
+
+-- the status of an input
+abbrev pub IsAnswer : List ℕ → Status → Type 0
+IsAnswer input status = MatchBool (nat_lt (2 ^ 26) (length input)) (status ≡ TooLarge) (IsAnswerTo (shape input) status)

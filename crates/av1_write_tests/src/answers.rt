@@ -1,0 +1,169 @@
+use crate::rows::ROWS;
+use av1_bits::{MemSink, MemSource};
+use av1_program::run::run;
+use std::alloc::Global;
+use std::process::Abort;
+use std::test::Fail;
+
+const SPACES: usize = 1 << 26;
+
+const EMPTY: &str = r#"{"seq":{"chroma_sampling":3},"frame":{"width":8,"height":8},"tiles":[[]]}"#;
+
+const FLAGS: usize = 20_000;
+
+fn sink(alloc: Global) -> Result<MemSink, Fail> {
+    Ok(MemSink::new(alloc, 4096, false, Vec::new(alloc))?)
+}
+
+fn source(alloc: Global, text: &str) -> Result<MemSource, Fail> {
+    let bytes = Vec::from_slice(alloc, text.as_bytes())?;
+    Ok(MemSource::new(bytes, false, Vec::new(alloc)))
+}
+
+fn words(alloc: Global, text: &str) -> Result<Vec<String>, Fail> {
+    let mut words = Vec::new(alloc);
+    for word in text.split(' ') {
+        words.push(String::from_str(alloc, word)?)?;
+    }
+    Ok(words)
+}
+
+// The word `write` on this source gives this status, and these texts on `out` and `err`.
+fn answers(
+    rt: &impl Abort,
+    alloc: Global,
+    mut source: MemSource,
+    number: u8,
+    out_text: &str,
+    err_text: &str,
+) -> Result<(), Fail> {
+    let words = words(alloc, "write")?;
+    let mut out = sink(alloc)?;
+    let mut err = sink(alloc)?;
+    let status = run(alloc, &words, &mut source, &mut out, &mut err);
+    assert_eq!(rt; status.number(), number);
+    assert_eq!(rt; out.bytes(), out_text.as_bytes());
+    assert_eq!(rt; err.bytes(), err_text.as_bytes());
+    Ok(())
+}
+
+#[test]
+fn rows_are_answered(rt: HostRuntime) -> Result<(), Fail> {
+    let alloc = rt.alloc();
+    for row in ROWS.split("\n\n") {
+        let (input, want) = row.split_once('\n').unwrap_or(("", ""));
+        let (number, told) = want.split_once('\n').unwrap_or(("", ""));
+        let number = number.parse::<u8>()?;
+        let told = format!(in alloc; "{told}\n")?;
+        let (out, err) = if number == 0 {
+            (told.as_str(), "")
+        } else {
+            ("", told.as_str())
+        };
+        answers(&rt, alloc, source(alloc, input)?, number, out, err)?;
+    }
+    Ok(())
+}
+
+#[test]
+fn a_source_that_fails_at_once_is_a_source_fault(rt: HostRuntime) -> Result<(), Fail> {
+    let alloc = rt.alloc();
+    let fails = MemSource::new(Vec::new(alloc), false, vec![in alloc; 1]?);
+    answers(&rt, alloc, fails, 2, "", "source fault\n")
+}
+
+#[test]
+fn a_sink_that_fails_holds_a_front(rt: HostRuntime) -> Result<(), Fail> {
+    let alloc = rt.alloc();
+    let mut source = source(alloc, EMPTY)?;
+    let mut out = MemSink::new(alloc, 4096, true, vec![in alloc; 2]?)?;
+    let mut err = sink(alloc)?;
+    let status = run(
+        alloc,
+        &words(alloc, "write")?,
+        &mut source,
+        &mut out,
+        &mut err,
+    );
+    assert_eq!(rt; status.number(), 9);
+    assert_eq!(rt; out.bytes(), b"1".as_slice());
+    assert_eq!(rt; err.bytes(), b"sink fault\n".as_slice());
+    Ok(())
+}
+
+#[test]
+fn a_fault_of_err_changes_no_status(rt: HostRuntime) -> Result<(), Fail> {
+    let alloc = rt.alloc();
+    let mut source = source(alloc, "[]")?;
+    let mut out = sink(alloc)?;
+    let mut err = MemSink::new(alloc, 4096, false, vec![in alloc; 1]?)?;
+    let status = run(
+        alloc,
+        &words(alloc, "write")?,
+        &mut source,
+        &mut out,
+        &mut err,
+    );
+    assert_eq!(rt; status.number(), 5);
+    assert!(rt; out.bytes().is_empty());
+    assert!(rt; err.bytes().is_empty());
+    Ok(())
+}
+
+#[test]
+fn other_words_are_faulty_usage(rt: HostRuntime) -> Result<(), Fail> {
+    let alloc = rt.alloc();
+    for text in ["", "make", "make 07", "write write", "Write", "--help"] {
+        let mut source = source(alloc, EMPTY)?;
+        let mut out = sink(alloc)?;
+        let mut err = sink(alloc)?;
+        let status = run(alloc, &words(alloc, text)?, &mut source, &mut out, &mut err);
+        assert_eq!(rt; status.number(), 1, "{text}");
+        assert_eq!(rt;
+            err.bytes(),
+            b"usage: av1_write write\n".as_slice(),
+            "{text}"
+        );
+    }
+    let mut out = sink(alloc)?;
+    let mut err = sink(alloc)?;
+    let status = run(alloc, &[], &mut source(alloc, EMPTY)?, &mut out, &mut err);
+    assert_eq!(rt; status.number(), 1);
+    Ok(())
+}
+
+// One block, and then many flags that are true: each takes less than a bit more than the one before.
+#[test]
+fn a_long_script_is_sent(rt: HostRuntime) -> Result<(), Fail> {
+    let alloc = rt.alloc();
+    let mut text = String::from_str(
+        alloc,
+        r#"{"seq":{"chroma_sampling":3},"frame":{"width":8,"height":8},"tiles":[[{"op":"Block","x":0,"y":0,"size":3}"#,
+    )?;
+    for _ in 0..FLAGS {
+        text.push_str(r#",{"op":"Skip","a":true}"#)?;
+    }
+    text.push_str("]]}")?;
+    let mut source = source(alloc, text.as_str())?;
+    let mut out = MemSink::new(alloc, 1 << 20, false, Vec::new(alloc))?;
+    let mut err = sink(alloc)?;
+    let status = run(
+        alloc,
+        &words(alloc, "write")?,
+        &mut source,
+        &mut out,
+        &mut err,
+    );
+    assert_eq!(rt; status.number(), 0);
+    assert!(rt; err.bytes().is_empty());
+    Ok(())
+}
+
+#[test]
+fn an_input_may_have_64_mib(rt: HostRuntime) -> Result<(), Fail> {
+    let alloc = rt.alloc();
+    let most = MemSource::new(vec![in alloc; b' '; SPACES]?, false, Vec::new(alloc));
+    answers(&rt, alloc, most, 4, "", "bad text\n")?;
+    let more = MemSource::new(vec![in alloc; b' '; SPACES + 1]?, false, Vec::new(alloc));
+    answers(&rt, alloc, more, 3, "", "input too large\n")
+}
