@@ -1,0 +1,4 @@
+pub mod Broken
+pub mod Doubling
+pub mod Hints
+pub mod Ranges

@@ -1,0 +1,16 @@
+//! Rows of sequences and frames that break one rule each, and rows of tilings, worked out by hand and by a program of their own.
+//!
+//! - `words`: the words `name=value` of a row
+//! - `sequences`, `frames`, `states`: sequences, frames and their state from the words of a row
+//! - `rows`: the rows
+//! - `tests`: each row through the public calls
+#![tactic(auto)]
+
+pub mod frames;
+#[cfg(test)]
+mod rows;
+pub mod sequences;
+pub mod states;
+#[cfg(test)]
+mod tests;
+pub mod words;
