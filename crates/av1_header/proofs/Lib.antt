@@ -1,0 +1,11 @@
+pub mod Calls
+pub mod FoundLoop
+pub mod FrameFitLaws
+pub mod GrainFitLaws
+pub mod ReadBack
+pub mod RowLaws
+pub mod RulesFit
+pub mod SignedWords
+pub mod TileLoops
+pub mod TilesFitLaws
+pub mod Words

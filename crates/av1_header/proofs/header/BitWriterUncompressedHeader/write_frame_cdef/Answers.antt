@@ -1,0 +1,7 @@
+use Rattle.std.proofs.Common.{refl, ap}
+use Rattle.av1_header.specs.Filters.{cdef_params}
+use Rattle.av1_header.proofs.Calls.{all_rows, by_rows}
+use Rattle.av1_header.proofs.header.BitWriterUncompressedHeader.write_frame_cdef.Goals as goal
+
+pub returns : goal.returns
+returns c = all_rows _ _ _ _ _ _ _ _ (by_rows _ _ _ _ _ _ _ _ c.write_cdef.ensures (ap (λ m. cdef_params c.args.fi.now.sequence.enable_cdef m) c.is_monochrome-mono.ensures)) refl c.outcome.ensures.ok c.outcome.ensures.err

@@ -1,0 +1,13 @@
+pub mod Color
+pub mod Deltas
+pub mod FilmGrain
+pub mod Filters
+pub mod FrameFlags
+pub mod FrameHeader
+pub mod Metadata
+pub mod RowReading
+pub mod Rows
+pub mod Segments
+pub mod SequenceHeader
+pub mod Sizes
+pub mod Tiles
