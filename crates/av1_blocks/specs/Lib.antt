@@ -1,0 +1,10 @@
+pub mod Area
+pub mod Block
+pub mod Coefficients
+pub mod Edges
+pub mod Entry
+pub mod GoingBack
+pub mod Grid
+pub mod Places
+pub mod Saved
+pub mod Sound
