@@ -1,0 +1,12 @@
+pub mod AllScans
+pub mod Causal
+pub mod CodedSizes
+pub mod DiagonalSteps
+pub mod EndClasses
+pub mod Filling
+pub mod LevelSteps
+pub mod NearPlace
+pub mod Offsets
+pub mod ScanRules
+pub mod ScanSteps
+pub mod Tests
