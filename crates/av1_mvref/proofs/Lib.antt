@@ -1,0 +1,12 @@
+pub mod Noting
+pub mod Same
+pub mod Distinct
+pub mod Entries
+pub mod Lines
+pub mod PartWay
+pub mod Sorting
+pub mod Parts
+pub mod Raised
+pub mod Walked
+pub mod Kept
+pub mod Whole
