@@ -1,0 +1,11 @@
+pub mod DeltaReads
+pub mod DeltaWrites
+pub mod Elements
+pub mod Factors
+pub mod Gathering
+pub mod Palettes
+pub mod Readings
+pub mod Segments
+pub mod Slots
+pub mod Values
+pub mod Writing

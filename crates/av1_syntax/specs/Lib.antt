@@ -1,0 +1,9 @@
+pub mod Calls
+pub mod Deltas
+pub mod Factors
+pub mod Flags
+pub mod IntraModes
+pub mod Literals
+pub mod Palette
+pub mod Partition
+pub mod Segments

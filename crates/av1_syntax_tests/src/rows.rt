@@ -1,0 +1,167 @@
+// Single write calls on a fresh encoder, where all symbols are equally likely.
+ghost use Rattle.std.specs.Prelude.{◌≡◌, ◌*◌, ◌^◌, ◌≤◌, IfOk};
+ghost use Rattle.av1_cdf.specs.Context.{AreCdfs};
+
+use av1_blocks::{BlockContext, FrameBlocks, TileBlocksMut};
+use av1_cdf::{CDFContext, law_of_starting};
+use av1_ec::{Writer, WriterBase, WriterEncoder};
+use av1_geometry::{
+    BlockOffset, BlockSize, CFLParams, CFLSign, ChromaSampling, OutOfMemory, PartitionType,
+    PredictionMode, TileBlockOffset,
+};
+use av1_syntax::ContextWriter;
+use std::alloc::Global;
+use std::process::Abort;
+use std::test::Fail;
+
+const CORNER: TileBlockOffset = TileBlockOffset(BlockOffset { x: 0, y: 0 });
+
+// A tile of so many columns and rows.
+fn fresh(alloc: Global, cols: usize, rows: usize) -> Result<ContextWriter, OutOfMemory>
+    requires { cols * rows ≤ 2 ^ 22 }
+    ensures cdfs { IfOk result (λ cw. AreCdfs cw.fc) }
+    ensures cols { IfOk result (λ cw. cw.bc.blocks.cols ≡ cols) }
+    ensures rows { IfOk result (λ cw. cw.bc.blocks.rows ≡ rows) }
+{
+    law_of_starting();
+    let frame = FrameBlocks::new(alloc, cols, rows)?;
+    let bc = BlockContext::new(TileBlocksMut::new(frame, 0, 0, cols, rows));
+    Ok(ContextWriter::new(alloc, CDFContext::uniform(), bc))
+}
+
+// The bits that an encoder tells, and its bytes.
+fn ends(
+    rt: &impl Abort,
+    w: WriterBase<WriterEncoder>,
+    bits: u32,
+    bytes: &[u8],
+) -> Result<(), Fail> {
+    assert_eq!(rt; w.tell(), bits);
+    let written = w.done()?;
+    assert_eq!(rt; written.as_slice(), bytes);
+    Ok(())
+}
+
+#[test]
+fn a_skip_flag(rt: HostRuntime) -> Result<(), Fail> {
+    let mut cw = fresh(rt.alloc(), 4, 4)?;
+    let mut w = WriterEncoder::new(rt.alloc());
+    cw.write_skip(&mut w, CORNER, true)?;
+    ends(&rt, w, 2, &[0xc0])
+}
+
+#[test]
+fn a_block_that_is_not_parted(rt: HostRuntime) -> Result<(), Fail> {
+    let mut cw = fresh(rt.alloc(), 2, 2)?;
+    let mut w = WriterEncoder::new(rt.alloc());
+    let none = PartitionType::PARTITION_NONE;
+    cw.write_partition(&mut w, CORNER, none, BlockSize::BLOCK_8X8)?;
+    ends(&rt, w, 4, &[0x10])
+}
+
+#[test]
+fn a_split_at_the_last_row(rt: HostRuntime) -> Result<(), Fail> {
+    let mut cw = fresh(rt.alloc(), 4, 2)?;
+    let mut w = WriterEncoder::new(rt.alloc());
+    let split = PartitionType::PARTITION_SPLIT;
+    cw.write_partition(&mut w, CORNER, split, BlockSize::BLOCK_16X16)?;
+    ends(&rt, w, 2, &[0xc0])
+}
+
+#[test]
+fn a_split_in_the_last_corner(rt: HostRuntime) -> Result<(), Fail> {
+    let mut cw = fresh(rt.alloc(), 2, 2)?;
+    let mut w = WriterEncoder::new(rt.alloc());
+    let split = PartitionType::PARTITION_SPLIT;
+    cw.write_partition(&mut w, CORNER, split, BlockSize::BLOCK_64X64)?;
+    ends(&rt, w, 1, &[0x80])
+}
+
+#[test]
+fn luma_modes(rt: HostRuntime) -> Result<(), Fail> {
+    let mut cw = fresh(rt.alloc(), 4, 4)?;
+    let mut w = WriterEncoder::new(rt.alloc());
+    cw.write_intra_mode_kf(&mut w, CORNER, PredictionMode::H_PRED)?;
+    ends(&rt, w, 5, &[0x28])?;
+    let mut w = WriterEncoder::new(rt.alloc());
+    let mode = PredictionMode::D135_PRED;
+    cw.write_intra_mode(&mut w, BlockSize::BLOCK_16X8, mode)?;
+    ends(&rt, w, 5, &[0x58])
+}
+
+#[test]
+fn a_chroma_mode_by_its_luma_mode(rt: HostRuntime) -> Result<(), Fail> {
+    let mut cw = fresh(rt.alloc(), 4, 4)?;
+    let luma = PredictionMode::V_PRED;
+    let mut w = WriterEncoder::new(rt.alloc());
+    let cfl = PredictionMode::UV_CFL_PRED;
+    cw.write_intra_uv_mode(&mut w, cfl, luma, BlockSize::BLOCK_32X32)?;
+    ends(&rt, w, 5, &[0xf8])?;
+    let mut w = WriterEncoder::new(rt.alloc());
+    let diagonal = PredictionMode::D45_PRED;
+    cw.write_intra_uv_mode(&mut w, diagonal, luma, BlockSize::BLOCK_64X64)?;
+    ends(&rt, w, 5, &[0x48])
+}
+
+#[test]
+fn angles(rt: HostRuntime) -> Result<(), Fail> {
+    let mut cw = fresh(rt.alloc(), 4, 4)?;
+    let mut w = WriterEncoder::new(rt.alloc());
+    cw.write_angle_delta(&mut w, -3, PredictionMode::D67_PRED)?;
+    ends(&rt, w, 4, &[0x10])?;
+    let mut w = WriterEncoder::new(rt.alloc());
+    cw.write_angle_delta(&mut w, 2, PredictionMode::V_PRED)?;
+    ends(&rt, w, 4, &[0xd0])
+}
+
+#[test]
+fn filter_intra_and_no_palettes(rt: HostRuntime) -> Result<(), Fail> {
+    let mut cw = fresh(rt.alloc(), 4, 4)?;
+    let mut w = WriterEncoder::new(rt.alloc());
+    cw.write_use_filter_intra(&mut w, true, BlockSize::BLOCK_8X8)?;
+    ends(&rt, w, 2, &[0xc0])?;
+    let mut w = WriterEncoder::new(rt.alloc());
+    let dc = PredictionMode::DC_PRED;
+    let size = BlockSize::BLOCK_16X16;
+    let sampling = ChromaSampling::Cs420;
+    cw.write_use_palette_mode(&mut w, false, size, CORNER, dc, dc, 1, 1, sampling)?;
+    ends(&rt, w, 3, &[0x20])
+}
+
+#[test]
+fn factors_of_both_signs(rt: HostRuntime) -> Result<(), Fail> {
+    let mut cw = fresh(rt.alloc(), 4, 4)?;
+    let mut w = WriterEncoder::new(rt.alloc());
+    let cfl = CFLParams {
+        sign: [CFLSign::CFL_SIGN_POS, CFLSign::CFL_SIGN_NEG],
+        scale: [3, 2],
+    };
+    cw.write_cfl_alphas(&mut w, cfl)?;
+    ends(&rt, w, 12, &[0xc4, 0x10])
+}
+
+#[test]
+fn a_segment_of_a_skipped_block(rt: HostRuntime) -> Result<(), Fail> {
+    let mut cw = fresh(rt.alloc(), 4, 4)?;
+    let mut w = WriterEncoder::new(rt.alloc());
+    cw.write_segmentation(&mut w, CORNER, BlockSize::BLOCK_8X8, true, 7)?;
+    ends(&rt, w, 1, &[0x80])
+}
+
+#[test]
+fn an_index_of_the_filter(rt: HostRuntime) -> Result<(), Fail> {
+    let mut cw = fresh(rt.alloc(), 4, 4)?;
+    let mut w = WriterEncoder::new(rt.alloc());
+    cw.write_cdef(&mut w, 5, 3)?;
+    ends(&rt, w, 4, &[0xb0])
+}
+
+#[test]
+fn numbers_around_a_prediction(rt: HostRuntime) -> Result<(), Fail> {
+    for (x, s) in [(3, 0), (4, 1), (2, 2), (5, 3), (1, 4), (6, 5), (0, 6)] {
+        if x < 7 {
+            assert_eq!(rt; ContextWriter::neg_interleave(x, 3, 7), s, "{x}");
+        }
+    }
+    Ok(())
+}
