@@ -1,19 +1,19 @@
 #!/bin/sh
-# bench.sh YARDSTICK [N [SEED [RUNS]]]
+# bench.sh BUILD [N [SEED [RUNS]]]
 #
 # What the range coder takes for each coded symbol, of this repository and of rav1e's own code: instructions, as callgrind
-# counts them, and nanoseconds, the least of RUNS runs of 30 N symbols; and the ratios of both. YARDSTICK is rav1e's
-# `ec_bench`, a program that does the same work; N is 100000, SEED 7 and RUNS 15 where they are not given. Wants valgrind,
-# GNU date, and `av1_bench` built by `rt run` in its folder.
+# counts them, and nanoseconds, the least of RUNS runs of 30 N symbols; and the ratios of both. BUILD is what
+# `yardstick/build.sh` made: its `ec_bench` does the same work. N is 100000, SEED 7 and RUNS 15 where they are not given.
+# Wants valgrind, GNU date, and `av1_bench` built by `rt run` in its folder.
 #
 # The making of the symbols is measured apart and taken off. Trials code each symbol twice, and what they take is that of
 # each coding. Their replay is the recording of all trials and one replay.
 set -eu
-if [ $# -lt 1 ]; then
-  echo "usage: bench.sh YARDSTICK [N [SEED [RUNS]]]" >&2
+if [ $# -lt 1 ] || [ ! -x "$1/bin/ec_bench" ]; then
+  echo "usage: bench.sh BUILD [N [SEED [RUNS]]], where BUILD was made by yardstick/build.sh" >&2
   exit 2
 fi
-theirs=$1
+theirs=$1/bin/ec_bench
 n=${2:-100000}
 seed=${3:-7}
 runs=${4:-15}

@@ -1,12 +1,12 @@
 #!/bin/sh
-# Compares the tables and constants of crates/av1_geometry number by number with those of rav1e's files,
-# where these lie in ../shared/papers/rav1e beside the repository (or in the folder given as the first argument).
-# Says so and does nothing where they are missing. Ends with status 1 where a number differs.
+# compare_tables.sh RAV1E
+#
+# Compares the tables and constants of crates/av1_geometry number by number with those of rav1e's files in the folder RAV1E.
+# Ends with status 1 where a number differs.
 set -eu
-here=$(CDPATH= cd -- "$(dirname -- "$0")/.." && pwd)
-rav1e=${1:-$here/../shared/papers/rav1e}
-if [ ! -d "$rav1e" ]; then
-    echo "compare_tables: no rav1e files in $rav1e, skipped"
-    exit 0
+if [ $# -ne 1 ] || [ ! -d "$1" ]; then
+  echo "usage: compare_tables.sh RAV1E, where RAV1E is a checkout of rav1e" >&2
+  exit 2
 fi
-exec python3 "$here/scripts/compare_tables.py" "$rav1e" "$here/crates/av1_geometry/src"
+here=$(CDPATH= cd -- "$(dirname -- "$0")/.." && pwd)
+exec python3 "$here/scripts/compare_tables.py" "$1" "$here/crates/av1_geometry/src"
