@@ -9,7 +9,10 @@ use crate::entry::Entry;
 use crate::frame_blocks::FrameBlocks;
 use crate::saved_blocks::SavedBlocks;
 use crate::tile_blocks::TileBlocks;
-use av1_geometry::{BlockSize, MotionVector, PredictionMode, RefType, TileBlockOffset};
+use av1_geometry::{
+    BlockSize, FRAME_LF_COUNT, INTER_REFS_PER_FRAME, MotionVector, PredictionMode, RefType,
+    TileBlockOffset, TxSize,
+};
 use std::marker::Model;
 use std::ops::Index;
 
@@ -218,6 +221,48 @@ impl TileBlocksMut {
         ensures { self.new ≡ over bo.0 bsize (λ b. record b { segmentation_idx = idx }) self.old }
     {
         self.enter(bo, bsize, Entry::Segment(idx));
+    }
+
+    /// Sets the index of the enhancement filter over the part of a block that is inside the tile.
+    pub fn set_cdef_index(&mut self, bo: TileBlockOffset, bsize: BlockSize, idx: u8)
+        requires { IsInside self.old bo.0 }
+        ensures { self.new ≡ over bo.0 bsize (λ b. record b { cdef_index = idx }) self.old }
+    {
+        self.enter(bo, bsize, Entry::Cdef(idx));
+    }
+
+    /// Sets the deltas of the deblocking filter over the part of a block that is inside the tile.
+    pub fn set_deblock_deltas(
+        &mut self,
+        bo: TileBlockOffset,
+        bsize: BlockSize,
+        deltas: [i8; FRAME_LF_COUNT],
+    )
+        requires { IsInside self.old bo.0 }
+        ensures { self.new ≡ over bo.0 bsize (λ b. record b { deblock_deltas = deltas }) self.old }
+    {
+        self.enter(bo, bsize, Entry::Deltas(deltas));
+    }
+
+    /// Sets the size of the transforms over the part of a block that is inside the tile.
+    pub fn set_txsize(&mut self, bo: TileBlockOffset, bsize: BlockSize, txsize: TxSize)
+        requires { IsInside self.old bo.0 }
+        ensures { self.new ≡ over bo.0 bsize (λ b. record b { txsize = txsize }) self.old }
+    {
+        self.enter(bo, bsize, Entry::Transform(txsize));
+    }
+
+    /// Sets how often the blocks around refer to each reference, over the part of a block that is inside the tile.
+    pub fn set_neighbors_ref_counts(
+        &mut self,
+        bo: TileBlockOffset,
+        bsize: BlockSize,
+        counts: [u8; INTER_REFS_PER_FRAME],
+    )
+        requires { IsInside self.old bo.0 }
+        ensures { self.new ≡ over bo.0 bsize (λ b. record b { neighbors_ref_counts = counts }) self.old }
+    {
+        self.enter(bo, bsize, Entry::Counts(counts));
     }
 }
 

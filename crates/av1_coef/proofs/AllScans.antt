@@ -1,7 +1,7 @@
 -- Scans of every size and class.
 use Rattle.std.proofs.Common.{◌≡◌, ℕ, suc, zero, ◌+◌, ◌<◌, List, [], ◌∷◌, ◌++◌, ◌≤◌, inl, inr, Bool, true, false, ◌&&◌, nat_eq, get_or, map, length, None, refl, sym, ◌∙◌, ap, subst, arith, take}
 use Rattle.std.specs.List.{list_all}
-use Rattle.std.proofs.lemmas.List.{get_or-map, length-map, get_or_append_left, get_or_at, length-append, map-append}
+use Rattle.std.proofs.lemmas.List.{ext_get_or, get_or-map, length-map, get_or_append_left, get_or_at, length-append, map-append}
 use Rattle.std.proofs.lemmas.Bool.{cases_lt}
 use Rattle.std.proofs.lemmas.List.Folds.{list_all-map, list_all_more, list_all_at}
 use Rattle.av1_geometry.specs.declared.tx_size.TxSize.{TxSize}
@@ -12,7 +12,7 @@ use Rattle.av1_geometry.specs.TxSize.{tx_number}
 use Rattle.av1_geometry.specs.Rules.{first_broken}
 use Rattle.av1_coef.specs.declared.scans.TheConstants.{TX_SIZES}
 use Rattle.av1_coef.specs.Contexts.{coded_width, coded_height}
-use Rattle.av1_coef.specs.Diagonal.{IsDiagonal, AreDiagonal}
+use Rattle.av1_coef.specs.Diagonal.{IsDiagonal, AreDiagonal, diagonal_scan, diagonal_of, diagonal_scans}
 use Rattle.av1_coef.specs.Scans.{class_number, classes, scan_of, all_scans, of_each, is_whole, is_ordered, scans_rules, IsScan}
 use Rattle.av1_coef.proofs.DiagonalSteps.{diagonal_ordered}
 use Rattle.av1_coef.proofs.ScanRules.{both_hold, none_broken}
@@ -163,6 +163,23 @@ module _ (scans : List (List (List ℕ))) (long : length scans ≡ 19) (each : (
   are_diagonal size class =
       let n = numbered size in
       (subst (λ s. AreDiagonal s (get_or scans (tx_number size) [])) n.1 (each (tx_number size) n.0)).each (class_number class) (class_few class)
+
+  pub are_scans : scans ≡ diagonal_scans
+  are_scans =
+      ext_get_or [] scans diagonal_scans (long ∙ sym (length-map TX_SIZES diagonal_of)) (λ k l. let m : k < 19 = omega (arith, l, long) in of_size k m (each k m))
+    where
+      three_same : (s : List ℕ) (k : ℕ) → k < 3 → get_or (s ∷ s ∷ s ∷ []) k [] ≡ s
+      three_same s zero l = refl
+      three_same s (suc zero) l = refl
+      three_same s (suc (suc zero)) l = refl
+      three_same s (suc (suc (suc k))) l = absurd (omega (arith, l))
+
+      of_size : (k : ℕ) → k < 19 → AreDiagonal (get_or TX_SIZES k TX_4X4) (get_or scans k []) → get_or scans k [] ≡ get_or diagonal_scans k []
+      of_size k m d =
+          let size = get_or TX_SIZES k TX_4X4 in
+          let scan = diagonal_scan (coded_width size) (coded_height size) in
+          ext_get_or [] (get_or scans k []) (diagonal_of size) d.three (λ i l. let few : i < 3 = omega (arith, l, d.three) in (d.each i few).is ∙ sym (three_same scan i few))
+          ∙ sym (get_or-map diagonal_of TX_SIZES k TX_4X4 [] m)
 
   pub are_passing : first_broken (scans_rules scans) ≡ None
   are_passing =

@@ -1,14 +1,15 @@
 -- The diagonal order passes the checks of a scan.
 use Rattle.std.proofs.Common.{◌≡◌, ℕ, zero, suc, ◌+◌, ◌-◌, ◌*◌, ◌/◌, ◌%◌, ◌<◌, ◌≤◌, List, [], ◌∷◌, ◌++◌, Bool, true, false, ◌&&◌, ◌||◌, nat_eq, nat_lt, if◌then◌else◌, refl, sym, ◌∙◌, ap, subst, arith, inl, inr, mul_comm}
 use Rattle.std.proofs.lemmas.Bool.{cases_lt}
+use Rattle.std.proofs.lemmas.List.{append-nil}
 use Rattle.std.proofs.lemmas.Nat.{mul-add-lt, div-mul-add, mod-mul-add}
 use Rattle.std.proofs.Math.Nat.{div-lt_iff_lt-mul, mod-lt, div-add-mod}
 use Rattle.av1_geometry.specs.declared.tx_type.TxClass.{TxClass}
 use Rattle.av1_geometry.specs.declared.tx_type.TxClass.TheVariants.{TX_CLASS_2D, TX_CLASS_HORIZ, TX_CLASS_VERT}
 use Rattle.av1_coef.specs.Contexts.{Step, base_steps}
 use Rattle.av1_coef.specs.Scans.{is_in, all_there, each_once, steps_later, keeps_order}
-use Rattle.av1_coef.specs.Diagonal.{diagonal_key, Rises, IsDiagonal}
-use Rattle.av1_coef.proofs.Tests.{lt_is, lt_not, eq_is, either, both, same, or_assoc}
+use Rattle.av1_coef.specs.Diagonal.{diagonal_key, Rises, IsDiagonal, at_key, by_keys}
+use Rattle.av1_coef.proofs.Tests.{lt_is, lt_not, le_is, le_not, eq_is, either, both, same, or_assoc}
 use Rattle.av1_coef.proofs.ScanSteps.{there_at}
 
 -- the positions of a block whose keys are below n, in order of their keys
@@ -16,6 +17,7 @@ pub record IsBegun (w h n : ℕ) (scan : List ℕ) : Type 0 where
   pub rises : Rises h scan
   pub inside : (p : ℕ) → is_in scan p ≡ true → (p < w * h) × (diagonal_key h p < n)
   pub whole : (p : ℕ) → p < w * h → diagonal_key h p < n → is_in scan p ≡ true
+  pub is : scan ≡ by_keys w h n
 
 -- the column and the row of a place
 place_is : (c h r : ℕ) → r < h → ((c * h + r) / h ≡ c) × ((c * h + r) % h ≡ r)
@@ -96,9 +98,47 @@ pub diagonal_ordered : (w h : ℕ) (class : TxClass) (scan : List ℕ) → IsDia
 diagonal_ordered w h class scan d =
     order_of w h 0 class scan d.rises (λ q m. omega arith) (λ q l m. there_at (w * h) scan q l (both (each_once (w * h) scan) (all_there (w * h) scan) d.whole).1)
 
+-- the column and the line of a key
+key_column : (line c : ℕ) → c < 64 → (64 * line + c) % 64 ≡ c
+key_column line c l = omega (arith, l)
+
+key_line : (line c : ℕ) → c < 64 → (64 * line + c) / 64 ≡ line
+key_line line c l = omega (arith, l)
+
+-- a place of the block is at its key
+at_place : (w h line c : ℕ) → c < 64 → c < w → c ≤ line → line - c < h → at_key w h (64 * line + c) ≡ (c * h + (line - c)) ∷ []
+at_place w h line c l a b d = rw (key_column line c l, key_line line c l, lt_is c w a, le_is c line b, lt_is (line - c) h d) refl
+
+-- where no place has a key, nothing is there
+at_none : (w h k : ℕ) → ((q : ℕ) → q < w * h → diagonal_key h q ≡ k → ⊥) → at_key w h k ≡ []
+at_none w h k none =
+    let c = k % 64 in
+    let line = k / 64 in
+    elim (cases_lt c w) [
+      | inl a ↦ elim (cases_lt line c) [
+        | inl b ↦ rw (lt_is c w a, le_not c line b) refl
+        | inr b ↦ elim (cases_lt (line - c) h) [
+          | inl d ↦ absurd (none (c * h + (line - c)) (omega (arith, mul-add-lt c h (line - c) w a d, mul_comm w h)) (key_at h c (line - c) d ∙ whole_key k (k % 64) (k / 64) b refl refl))
+          | inr d ↦ rw (lt_is c w a, le_is c line b, lt_not (line - c) h d) refl
+        ]
+      ]
+      | inr a ↦ rw (lt_not c w a) refl
+    ]
+  where
+    whole_key : (k c line : ℕ) → c ≤ line → c ≡ k % 64 → line ≡ k / 64 → (c + (line - c)) * 64 + c ≡ k
+    whole_key k c line l e f = omega (arith, l, e, f)
+
+-- keys at which nothing is
+keys_skip : (w h n m : ℕ) → n ≤ m → ((k : ℕ) → n ≤ k → k < m → at_key w h k ≡ []) → by_keys w h n ≡ by_keys w h m
+keys_skip w h n zero l none = let e : n ≡ 0 = omega (arith, l) in ap (by_keys w h) e
+keys_skip w h n (suc m) l none = elim (cases_lt m n) [
+  | inl e ↦ let f : n ≡ suc m = omega (arith, l, e) in ap (by_keys w h) f
+  | inr e ↦ keys_skip w h n m e (λ k a b. none k a (omega (arith, b))) ∙ sym (ap (λ s. by_keys w h m ++ s) (none m e (omega arith)) ∙ append-nil (by_keys w h m))
+]
+
 -- a list that is begun
 pub diagonal_start : (w h : ℕ) → IsBegun w h 0 []
-diagonal_start w h = record { rises = tt; inside = λ p m. absurd cc; whole = λ p l m. absurd (omega (arith, m)) }
+diagonal_start w h = record { rises = tt; inside = λ p m. absurd cc; whole = λ p l m. absurd (omega (arith, m)); is = refl }
 
 or_false : (b : Bool) → (b || false) ≡ b
 or_false true = refl
@@ -119,8 +159,9 @@ rises_push h (x ∷ scan) p r b = (
 )
 
 -- the next place
-pub diagonal_push : (w h n p : ℕ) (scan : List ℕ) → IsBegun w h n scan → p < w * h → diagonal_key h p ≡ n → ((q : ℕ) → q < w * h → diagonal_key h q ≡ n → q ≡ p) → IsBegun w h (suc n) (scan ++ p ∷ [])
-diagonal_push w h n p scan d l k only = record {
+pub diagonal_push : (w h n p : ℕ) (scan : List ℕ) → IsBegun w h n scan → p < w * h → diagonal_key h p ≡ n → ((q : ℕ) → q < w * h → diagonal_key h q ≡ n → q ≡ p) → at_key w h n ≡ p ∷ [] → IsBegun w h (suc n) (scan ++ p ∷ [])
+diagonal_push w h n p scan d l k only at = record {
+  is = ap (λ s. s ++ p ∷ []) d.is ∙ ap (λ s. by_keys w h n ++ s) (sym at);
   rises = rises_push h scan p d.rises (λ q m. below (diagonal_key h q) n (diagonal_key h p) (d.inside q m).1 k);
   inside = λ q m. elim (either (is_in scan q)) [
     | inl e ↦ let i = d.inside q e in (i.0, more (diagonal_key h q) n i.1)
@@ -151,6 +192,7 @@ diagonal_push w h n p scan d l k only = record {
 -- keys that no place has
 pub diagonal_skip : (w h n m : ℕ) (scan : List ℕ) → IsBegun w h n scan → n ≤ m → ((q : ℕ) → q < w * h → n ≤ diagonal_key h q → diagonal_key h q < m → ⊥) → IsBegun w h m scan
 diagonal_skip w h n m scan d l none = record {
+  is = d.is ∙ keys_skip w h n m l (λ k a b. at_none w h k (λ q i e. none q i (omega (arith, a, e)) (omega (arith, b, e))));
   rises = d.rises;
   inside = λ q i. let j = d.inside q i in (j.0, more (diagonal_key h q) n m j.1 l);
   whole = λ q i k. elim (cases_lt (diagonal_key h q) n) [ inl e ↦ d.whole q i e | inr e ↦ absurd (none q i e k) ];
@@ -179,7 +221,8 @@ diagonal_place w h line c scan some few l m r d =
     let only : (q : ℕ) → q < w * h → diagonal_key h q ≡ 64 * line + c → q ≡ p =
     λ q i e. let t = key_tells (q / h) (q % h) line c (omega (arith, column_below w h q some i, few)) (omega (arith, l, few)) e in
     position_is h q ∙ ap (λ a. a * h + q % h) t.0 ∙ ap (λ b. c * h + b) (rest (q / h) (q % h) line c t.0 t.1) in
-    subst (λ n. IsBegun w h n (scan ++ p ∷ [])) (next (64 * line) c) (diagonal_push w h (64 * line + c) p scan d within k only)
+    let at = at_place w h line c (omega (arith, l, few)) l m r in
+    subst (λ n. IsBegun w h n (scan ++ p ∷ [])) (next (64 * line) c) (diagonal_push w h (64 * line + c) p scan d within k only at)
   where
     rest : (a b line c : ℕ) → a ≡ c → a + b ≡ line → b ≡ line - c
     rest a b line c e f = omega (arith, e, f)
@@ -221,4 +264,5 @@ pub diagonal_done : (w h : ℕ) (scan : List ℕ) → 0 < h → w ≤ 32 → IsB
 diagonal_done w h scan some few d = record {
   whole = rw (once_of (w * h) h scan d.rises (λ p m. (d.inside p m).0), there_of (w * h) scan (λ p l. d.whole p l (diagonal_all w h p some few l))) refl;
   rises = d.rises;
+  is = let e : 64 * (w + h - 1) + 0 ≡ 64 * (w + h - 1) = omega arith in d.is ∙ ap (by_keys w h) e;
 }

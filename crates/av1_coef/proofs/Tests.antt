@@ -1,5 +1,5 @@
 -- Tests of numbers, and what follows from their answers.
-use Rattle.std.proofs.Common.{◌≡◌, ℕ, ◌<◌, ◌≤◌, Bool, true, false, ◌&&◌, ◌||◌, not, nat_eq, nat_lt, ◌⊎◌, inl, inr, refl, arith}
+use Rattle.std.proofs.Common.{◌≡◌, ℕ, ◌<◌, ◌≤◌, Bool, true, false, ◌&&◌, ◌||◌, not, nat_eq, nat_le, nat_lt, ◌⊎◌, inl, inr, refl, arith}
 use Rattle.std.proofs.lemmas.Bool.Decides.{nat_tests}
 
 pub lt_is : (a b : ℕ) → a < b → nat_lt a b ≡ true
@@ -7,6 +7,12 @@ lt_is a b h = grind (arith, nat_tests)
 
 pub lt_not : (a b : ℕ) → b ≤ a → nat_lt a b ≡ false
 lt_not a b h = grind (arith, nat_tests)
+
+pub le_is : (a b : ℕ) → a ≤ b → nat_le a b ≡ true
+le_is a b h = grind (arith, nat_tests)
+
+pub le_not : (a b : ℕ) → b < a → nat_le a b ≡ false
+le_not a b h = grind (arith, nat_tests)
 
 pub eq_is : (a b : ℕ) → a ≡ b → nat_eq a b ≡ true
 eq_is a b h = grind (arith, nat_tests)

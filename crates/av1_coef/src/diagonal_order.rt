@@ -4,7 +4,7 @@ ghost use Rattle.av1_geometry.specs.declared.tx_size.TxSize.{TxSize};
 ghost use Rattle.av1_geometry.specs.declared.tx_type.TxClass.{TxClass};
 ghost use Rattle.av1_geometry.specs.Rules.{first_broken};
 ghost use Rattle.av1_coef.specs.Contexts.{coded_width, coded_height};
-ghost use Rattle.av1_coef.specs.Diagonal.{IsDiagonal, AreDiagonal};
+ghost use Rattle.av1_coef.specs.Diagonal.{IsDiagonal, AreDiagonal, diagonal_scans};
 ghost use Rattle.av1_coef.specs.Scans.{scans_rules, scan_of, of_each};
 
 use crate::scans::{Scan, Scans, TX_SIZES};
@@ -44,6 +44,7 @@ fn diagonal_of_size(alloc: Global, tx_size: TxSize) -> Result<Vec<Scan>, OutOfMe
 
 /// For each size and class its positions by rising column and row together, then by rising column.
 pub fn diagonal(alloc: Global) -> Result<Scans, OutOfMemory>
+    ensures value { IfOk result (λ s. s ≡ diagonal_scans) }
     ensures each { IfOk result (λ s. IsTrue (of_each s)) }
     ensures diagonal { IfOk result (λ s. (size : TxSize) (class : TxClass) → IsDiagonal (coded_width size) (coded_height size) (scan_of s size class)) }
     ensures passes { IfOk result (λ s. first_broken (scans_rules s) ≡ None) }

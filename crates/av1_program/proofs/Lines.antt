@@ -3,7 +3,7 @@ use Rattle.std.proofs.Common.{◌≡◌, ℕ, ◌+◌, ◌<◌, List, [], ◌∷
 use Rattle.std.specs.List.{enumerate_from, flat_map}
 use Rattle.std.proofs.lemmas.List.{append-nil, take_more}
 use Rattle.std.proofs.lemmas.List.Concat.{flat_map-append}
-use Rattle.av1_unit.specs.declared.report.TileReport.{TileReport}
+use Rattle.av1_tile.specs.declared.report.TileReport.{TileReport}
 use Rattle.av1_program.specs.Text.{tile_line, tile_lines}
 
 -- one more is counted from the length on

@@ -1,7 +1,7 @@
 -- Why a text gives no unit.
 use Rattle.std.specs.Prelude.{◌≡◌, string_bytes}
-use Rattle.av1_program.specs.declared.shape.ShapeError.{ShapeError}
-use Rattle.av1_program.specs.declared.shape.ShapeError.TheVariants.{BadText, BadShape, OutOfMemory}
+use Rattle.av1_input.specs.declared.error.ShapeError.{ShapeError}
+use Rattle.av1_input.specs.declared.error.ShapeError.TheVariants.{BadText, BadShape, OutOfMemory}
 use Rattle.av1_program.specs.Shape.{Shape, NoReading, Unfit}
 
 -- an error tells what the text is, but for want of memory

@@ -3,3 +3,4 @@ pub mod Run
 pub mod Shape
 pub mod Status
 pub mod Text
+pub mod Words

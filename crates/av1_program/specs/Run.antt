@@ -1,58 +1,60 @@
 -- What a run of the program reads and sends.
-use Rattle.std.specs.Prelude.{◌≡◌, ℕ, ◌+◌, ◌^◌, ◌<◌, ◌≤◌, ◌⊎◌, MatchBool, nat_lt, List, [], ◌∷◌, length, take, codes, string_bytes, Option, Some, None}
+use Rattle.std.specs.Prelude.{◌≡◌, ℕ, ◌+◌, ◌^◌, ◌<◌, ◌≤◌, ◌⊎◌, MatchBool, nat_lt, List, [], length, take, string_bytes, Option, Some, None, IsSome}
 use Rattle.av1_bits.specs.Outside.{Rose, Still, Takes, appended}
 use Rattle.av1_geometry.specs.declared.error.Rule.{Rule}
-use Rattle.av1_unit.specs.declared.error.Place.{Place}
-use Rattle.av1_unit.specs.declared.error.UnitError.{UnitError}
-use Rattle.av1_unit.specs.declared.error.UnitError.TheVariants as errors
-use Rattle.av1_unit.specs.declared.unit.Unit as declared
-use Rattle.av1_unit.specs.declared.unit.Via.{Via}
-use Rattle.av1_unit.specs.Headline.{IsWritten, first_refusal}
+use Rattle.av1_tile.specs.declared.error.Place.{Place}
+use Rattle.av1_tile.specs.declared.error.UnitError.{UnitError}
+use Rattle.av1_tile.specs.declared.error.UnitError.TheVariants as errors
+use Rattle.av1_tile.specs.declared.unit.Via.{Via}
+use Rattle.av1_unit.specs.Findings.{first_refusal}
+use Rattle.av1_unit.specs.Headline.{IsWritten}
+use Rattle.av1_unit.specs.Plain.{PlainUnit}
 use Rattle.av1_unit.specs.Report.{ReportLists}
 use Rattle.av1_program.specs.declared.status.Status.{Status}
 use Rattle.av1_program.specs.declared.status.Status.TheVariants.{Sent, Usage, SourceFault, TooLarge, BadText, BadShape, Refused, BadScript, TooLong, SinkFault, OutOfMemory}
 use Rattle.av1_program.specs.Shape.{Shape, NoReading, Unfit, Fits, shape}
 use Rattle.av1_program.specs.Status.{IsBadShape, of_unit_error}
-use Rattle.av1_program.specs.Text.{unit_text}
+use Rattle.av1_program.specs.declared.words.Word.{Word}
+use Rattle.av1_program.specs.Text.{err_text, out_text}
+use Rattle.av1_program.specs.Words.{word_of}
 
--- the one word that the program knows
-abbrev pub IsWrite : List (List ℕ) → Type 0
-IsWrite words = words ≡ codes "write" ∷ []
-
--- The text tells the bytes and the report of a unit that the input stands for.
-pub record IsTextOf (input text : List ℕ) : Type 0 where
-  pub unit : declared.Unit
+-- What is asked for is told of a unit that the input stands for: this to `out`, and this to `err`.
+pub record IsOutput (words : List (List ℕ)) (input out err : List ℕ) : Type 0 where
+  pub word : Word
+  pub asked : word_of words ≡ Some word
+  pub unit : PlainUnit
   pub via : Via
   pub bytes : List ℕ
   pub report : ReportLists
   pub fits : shape input ≡ Fits (unit, via)
   pub written : IsWritten unit bytes report
-  pub told : text ≡ unit_text bytes report
+  pub out_is : out ≡ out_text word bytes report
+  pub err_is : err ≡ err_text word report
 
 -- the unit that the input stands for breaks this rule at this place, and nothing before it is wrong
 pub record IsRefused (place : Place) (rule : Rule) (input : List ℕ) : Type 0 where
-  pub unit : declared.Unit
+  pub unit : PlainUnit
   pub via : Via
   pub fits : shape input ≡ Fits (unit, via)
   pub refusal : first_refusal unit ≡ Some (errors.Refused place rule)
 
 -- the script of the unit that the input stands for is bad at this item, and nothing before it is wrong
 pub record HasBadScript (tile item : ℕ) (input : List ℕ) : Type 0 where
-  pub unit : declared.Unit
+  pub unit : PlainUnit
   pub via : Via
   pub fits : shape input ≡ Fits (unit, via)
   pub refusal : first_refusal unit ≡ Some (errors.BadScript tile item)
 
 -- the unit that the input stands for has a step here that would begin after too many bits, and nothing before it is wrong
 pub record IsTooLong (place : Place) (input : List ℕ) : Type 0 where
-  pub unit : declared.Unit
+  pub unit : PlainUnit
   pub via : Via
   pub fits : shape input ≡ Fits (unit, via)
   pub refusal : first_refusal unit ≡ Some (errors.TooLong place)
 
 -- the unit that the input stands for is valid
 pub record IsValid (input : List ℕ) : Type 0 where
-  pub unit : declared.Unit
+  pub unit : PlainUnit
   pub via : Via
   pub fits : shape input ≡ Fits (unit, via)
   pub valid : first_refusal unit ≡ None
@@ -76,20 +78,25 @@ TakesAtMost before after = (k : ℕ) × (k ≤ 2 ^ 26) × Takes k before after
 abbrev pub IsSentFront : Option (List ℕ) → Option (List ℕ) → List ℕ → Type 0
 IsSentFront before after text = (k : ℕ) × (k ≤ length text) × (after ≡ appended before (take k text))
 
--- a sink received the text of this input, or a front of it
-pub record Receives (before after : Option (List ℕ)) (input : List ℕ) : Type 0 where
-  pub text : List ℕ
-  pub is : IsTextOf input text
-  pub received : after ≡ appended before text
+-- `out` received what is asked for of this input, and so did `err`, or a front of it where its count of faults rose
+pub record Receives (words : List (List ℕ)) (input : List ℕ) (out_before out_after err_before err_after : Option (List ℕ)) (err_still : Type 0) : Type 0 where
+  pub out : List ℕ
+  pub err : List ℕ
+  pub is : IsOutput words input out err
+  pub out_received : out_after ≡ appended out_before out
+  pub err_received : err_still → err_after ≡ appended err_before err
+  pub err_front : IsSentFront err_before err_after err
 
-pub record ReceivesFront (before after : Option (List ℕ)) (input : List ℕ) : Type 0 where
-  pub text : List ℕ
-  pub is : IsTextOf input text
-  pub received : IsSentFront before after text
+-- `out` received a front of it
+pub record ReceivesFront (words : List (List ℕ)) (before after : Option (List ℕ)) (input : List ℕ) : Type 0 where
+  pub out : List ℕ
+  pub err : List ℕ
+  pub is : IsOutput words input out err
+  pub received : IsSentFront before after out
 
--- A run was given the word, and a source that tells this input and didn't fail.
+-- A run was given a word that it knows, and a source that tells this input and didn't fail.
 pub record IsGiven (words : List (List ℕ)) (input : List ℕ) (before : Option (List ℕ)) (old new : ℕ) : Type 0 where
-  pub word : IsWrite words
+  pub word : IsSome (word_of words)
   pub told : before ≡ Some input
   pub no_fault : Still old new
 
@@ -105,7 +112,7 @@ IsRefusal _ input = ⊥
 
 -- why a run makes no text, by its status: of the words, what the source had left before and after, and its count of faults
 abbrev pub Explains : Status → List (List ℕ) → Option (List ℕ) → Option (List ℕ) → ℕ → ℕ → Type 0
-Explains Usage words before after old new = ¬ IsWrite words
+Explains Usage words before after old new = word_of words ≡ None
 Explains SourceFault words before after old new = Rose old new
 Explains TooLarge words before after old new = TakesMore before after
 Explains BadText words before after old new = Reads before after (IsRefusal BadText)

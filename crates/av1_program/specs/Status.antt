@@ -1,14 +1,14 @@
 -- The program's statuses: their numbers and their lines.
 use Rattle.std.specs.Prelude.{◌≡◌, ℕ, List, [], ◌++◌, codes, decimal, string_bytes}
 use Rattle.av1_geometry.specs.declared.error.Rule.{Rule}
-use Rattle.av1_unit.specs.declared.error.Place.{Place}
-use Rattle.av1_unit.specs.declared.error.Place.TheVariants.{Tables, Frame, Item, Obu}
+use Rattle.av1_tile.specs.declared.error.Place.{Place}
+use Rattle.av1_tile.specs.declared.error.Place.TheVariants.{Tables, Sequence, Frame, Metadata, Scripts, Item, Obu}
 use Rattle.av1_bits.specs.declared.transfer.ReadError.{ReadError}
 use Rattle.av1_bits.specs.declared.transfer.ReadError.TheVariants as reading
-use Rattle.av1_unit.specs.declared.error.UnitError.{UnitError}
-use Rattle.av1_unit.specs.declared.error.UnitError.TheVariants as units
-use Rattle.av1_program.specs.declared.shape.ShapeError.{ShapeError}
-use Rattle.av1_program.specs.declared.shape.ShapeError.TheVariants as shapes
+use Rattle.av1_tile.specs.declared.error.UnitError.{UnitError}
+use Rattle.av1_tile.specs.declared.error.UnitError.TheVariants as units
+use Rattle.av1_input.specs.declared.error.ShapeError.{ShapeError}
+use Rattle.av1_input.specs.declared.error.ShapeError.TheVariants as shapes
 use Rattle.av1_program.specs.declared.status.Status.{Status}
 use Rattle.av1_program.specs.declared.status.Status.TheVariants.{Sent, Usage, SourceFault, TooLarge, BadText, BadShape, Refused, BadScript, TooLong, SinkFault, OutOfMemory}
 
@@ -29,7 +29,10 @@ number_of OutOfMemory = 10
 -- a place by its name and its numbers
 unfoldable pub place_text : Place → List ℕ
 place_text Tables = codes "tables"
+place_text Sequence = codes "sequence"
 place_text Frame = codes "frame"
+place_text (Metadata index) = codes "metadata " ++ decimal index
+place_text Scripts = codes "scripts"
 place_text (Item tile item) = codes "tile " ++ decimal tile ++ codes " item " ++ decimal item
 place_text (Obu index) = codes "obu " ++ decimal index
 
@@ -48,7 +51,7 @@ bad_shape_line path = codes "bad shape at " ++ path ++ codes "\n"
 -- what `err` is told; of a unit that was sent, nothing
 abbrev pub line_of : Status → List ℕ
 line_of Sent = []
-line_of Usage = codes "usage: av1_write write\n"
+line_of Usage = codes "usage: av1_write write | raw\n"
 line_of SourceFault = codes "source fault\n"
 line_of TooLarge = codes "input too large\n"
 line_of BadText = codes "bad text\n"

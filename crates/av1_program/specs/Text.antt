@@ -1,10 +1,12 @@
 -- The text that tells a unit's bytes and its report.
-use Rattle.std.specs.Prelude.{ℕ, Bool, List, ◌++◌, codes, decimal, if◌then◌else◌}
+use Rattle.std.specs.Prelude.{ℕ, Bool, List, [], ◌++◌, codes, decimal, if◌then◌else◌}
 use Rattle.std.specs.List.{enumerate_from, flat_map}
 use Rattle.hex.specs.Hex.{encode_lower}
-use Rattle.av1_unit.specs.declared.report.TileReport.{TileReport}
-use Rattle.av1_unit.specs.declared.report.TrialCost.{TrialCost}
+use Rattle.av1_tile.specs.declared.report.TileReport.{TileReport}
+use Rattle.av1_tile.specs.declared.report.TrialCost.{TrialCost}
 use Rattle.av1_unit.specs.Report.{ReportLists}
+use Rattle.av1_program.specs.declared.words.Word.{Word}
+use Rattle.av1_program.specs.declared.words.Word.TheVariants.{Write, Raw}
 
 -- a tile's number, bytes and bits
 unfoldable pub tile_line : ℕ → TileReport → List ℕ
@@ -25,6 +27,19 @@ tile_lines tiles = flat_map (λ t. tile_line t.0 t.1) (enumerate_from 0 tiles)
 abbrev pub trial_lines : List TrialCost → List ℕ
 trial_lines trials = flat_map trial_line trials
 
+-- a line for each tile and each trial
+abbrev pub report_text : ReportLists → List ℕ
+report_text report = tile_lines report.tiles ++ trial_lines report.trials
+
 -- the bytes in hex digits, and then a line for each tile and each trial
 abbrev pub unit_text : List ℕ → ReportLists → List ℕ
 unit_text bytes report = encode_lower bytes ++ codes "\n" ++ tile_lines report.tiles ++ trial_lines report.trials
+
+-- what goes to `out`, and what to `err`, where all is sent
+abbrev pub out_text : Word → List ℕ → ReportLists → List ℕ
+out_text Write bytes report = unit_text bytes report
+out_text Raw bytes report = bytes
+
+abbrev pub err_text : Word → ReportLists → List ℕ
+err_text Write report = []
+err_text Raw report = report_text report

@@ -1,53 +1,76 @@
 // One run of the program.
-ghost use Rattle.std.specs.Prelude.{◌≡◌, ◌^◌, ◌≤◌, ◌↔◌, ◌⊎◌, ℕ, List, IfOk, IfErr, IsTrue, length, map, string_bytes};
+ghost use Rattle.std.specs.Prelude.{◌≡◌, ◌^◌, ◌≤◌, ◌↔◌, ◌⊎◌, ℕ, List, [], IfOk, IfErr, IsSome, None, Some, length, map, string_bytes};
 ghost use Rattle.av1_bits.specs.Outside.{Rose, Still, appended};
-ghost use Rattle.av1_program.specs.Run.{Explains, HasBadScript, IsTooLong, IsAnswer, IsGiven, IsRefusal, IsRefused, IsSentFront, IsTextOf, IsValid, IsWrite, Reads, Receives, ReceivesFront, TakesAtMost, TakesMore};
+ghost use Rattle.av1_program.specs.Run.{Explains, HasBadScript, IsTooLong, IsAnswer, IsGiven, IsRefusal, IsRefused, IsOutput, IsSentFront, IsValid, Reads, Receives, ReceivesFront, TakesAtMost, TakesMore};
 ghost use Rattle.av1_program.specs.Shape.{NoReading, Unfit, shape};
 ghost use Rattle.av1_program.specs.Status.{HasFixedLine, IsBadShape, line_of};
-ghost use Rattle.av1_unit.specs.declared.error.Place.{Place};
+ghost use Rattle.av1_program.specs.Text.{err_text, out_text};
+ghost use Rattle.av1_program.specs.Words.{word_of};
+ghost use Rattle.av1_tile.specs.declared.error.Place.{Place};
 ghost use Rattle.av1_geometry.specs.declared.error.Rule.{Rule};
 
 use crate::shape::read_unit;
 use crate::status::Status;
-use crate::text::unit_text;
+use crate::text::{report_text, unit_text};
+use crate::words::{Word, word_of};
 use av1_bits::{Sink, Source, read_at_most, send_all};
-use av1_unit::unit_bytes;
+use av1_geometry::OutOfMemory;
+use av1_unit::{Report, unit_bytes};
 use std::alloc::Global;
 
 /// The most bytes of an input.
 const MOST_INPUT: usize = 1 << 26;
 
-fn is_write(words: &[String]) -> bool
-    ensures { IsTrue result ↔ IsWrite (map string_bytes words.now) }
+// What is sent to the two sinks where all is sent.
+#[derive(Drop)]
+struct Output {
+    out: Vec<u8>,
+    err: String,
+}
+
+fn output_of(
+    alloc: Global,
+    word: Word,
+    bytes: Vec<u8>,
+    report: &Report,
+) -> Result<Output, OutOfMemory>
+    ensures out { IfOk result (λ o. o.out.items ≡ out_text word bytes.items report.now) }
+    ensures err { IfOk result (λ o. string_bytes o.err ≡ err_text word report.now) }
 {
-    match words {
-        [word] => word.as_str() == "write",
-        _ => false,
+    match word {
+        Word::Write => Ok(Output {
+            out: unit_text(alloc, &bytes, report)?.into_bytes(),
+            err: String::new(alloc),
+        }),
+        Word::Raw => Ok(Output {
+            out: bytes,
+            err: report_text(alloc, report)?,
+        }),
     }
 }
 
-fn text_of_input(alloc: Global, input: &[u8]) -> Result<String, Status>
-    ensures text { IfOk result (λ text. IsTextOf input.now (string_bytes text)) }
+fn output_of_input(alloc: Global, word: Word, input: &[u8]) -> Result<Output, Status>
+    ensures output { IfOk result (λ o. (words : _) → word_of words ≡ Some word → IsOutput words input.now o.out.items (string_bytes o.err)) }
     ensures refused { IfErr result (λ status. IsRefusal status input.now) }
 {
     let (unit, via) = read_unit(alloc, input)?;
     let (bytes, report) = unit_bytes(alloc, &unit, via)?;
-    Ok(unit_text(alloc, &bytes, &report)?)
+    Ok(output_of(alloc, word, bytes, &report)?)
 }
 
-fn make<R: Source>(alloc: Global, words: &[String], source: &mut R) -> Result<String, Status>
-    ensures text { IfOk result (λ text. Reads (R.left source.old) (R.left source.new) (λ input. IsTextOf input (string_bytes text))) }
+fn make<R: Source>(alloc: Global, words: &[String], source: &mut R) -> Result<Output, Status>
+    ensures output { IfOk result (λ o. Reads (R.left source.old) (R.left source.new) (λ input. IsOutput (map string_bytes words.now) input o.out.items (string_bytes o.err))) }
     ensures why { IfErr result (λ status. Explains status (map string_bytes words.now) (R.left source.old) (R.left source.new) (R.faults source.old) (R.faults source.new)) }
-    ensures word { (result ≡ Err Status.Usage) ⊎ IsWrite (map string_bytes words.now) }
+    ensures word { (result ≡ Err Status.Usage) ⊎ IsSome (word_of (map string_bytes words.now)) }
     ensures unread { result ≡ Err Status.Usage → source.new ≡ source.old }
     ensures taken { (result ≡ Err Status.TooLarge) ⊎ TakesAtMost (R.left source.old) (R.left source.new) }
     ensures count { (result ≡ Err Status.SourceFault) ⊎ (R.faults source.new ≡ R.faults source.old) }
 {
-    if !is_write(words) {
+    let Some(word) = word_of(words) else {
         return Err(Status::Usage);
-    }
+    };
     let input = read_at_most(alloc, source, MOST_INPUT)?;
-    text_of_input(alloc, &input)
+    output_of_input(alloc, word, &input)
 }
 
 /// Sends the line of a status to `err`, and answers the status. Where the line has a path or a place and there is no memory for
@@ -62,24 +85,42 @@ pub fn report_status<E: Sink>(alloc: Global, status: Status, err: &mut E) -> Sta
     status
 }
 
-fn send_text<S: Sink, E: Sink>(alloc: Global, text: &str, out: &mut S, err: &mut E) -> Status
+// Sends what is asked for, to `out` first.
+fn send_output<S: Sink, E: Sink>(alloc: Global, output: &Output, out: &mut S, err: &mut E) -> Status
     ensures cases { (result ≡ Status.Sent) ⊎ (result ≡ Status.SinkFault) }
-    ensures sent { result ≡ Status.Sent → S.sent out.new ≡ appended (S.sent out.old) text.now }
+    ensures sent { result ≡ Status.Sent → S.sent out.new ≡ appended (S.sent out.old) output.now.out.items }
     ensures count { result ≡ Status.Sent → S.faults out.new ≡ S.faults out.old }
     ensures sink_fault { result ≡ Status.SinkFault → Rose (S.faults out.old) (S.faults out.new) }
-    ensures sent_front { IsSentFront (S.sent out.old) (S.sent out.new) text.now }
-    ensures silent { result ≡ Status.Sent → err.new ≡ err.old }
-    ensures told { Still (E.faults err.old) (E.faults err.new) → E.sent err.new ≡ appended (E.sent err.old) (line_of result) }
-    ensures front { IsSentFront (E.sent err.old) (E.sent err.new) (line_of result) }
+    ensures sent_front { IsSentFront (S.sent out.old) (S.sent out.new) output.now.out.items }
+    ensures silent { string_bytes output.now.err ≡ [] → result ≡ Status.Sent → err.new ≡ err.old }
+    ensures report { result ≡ Status.Sent → Still (E.faults err.old) (E.faults err.new) → E.sent err.new ≡ appended (E.sent err.old) (string_bytes output.now.err) }
+    ensures report_front { result ≡ Status.Sent → IsSentFront (E.sent err.old) (E.sent err.new) (string_bytes output.now.err) }
+    ensures told { (result ≡ Status.Sent) ⊎ (Still (E.faults err.old) (E.faults err.new) → E.sent err.new ≡ appended (E.sent err.old) (line_of result)) }
+    ensures front { (result ≡ Status.Sent) ⊎ IsSentFront (E.sent err.old) (E.sent err.new) (line_of result) }
 {
-    match send_all(out, text.as_bytes()) {
-        Ok(()) => Status::Sent,
+    match send_all(out, &output.out) {
+        Ok(()) => {
+            send_report(output.err.as_str(), err);
+            Status::Sent
+        }
         Err(_) => report_status(alloc, Status::SinkFault, err),
     }
 }
 
-/// Reads a unit as JSON from `source`, and sends its bytes and its report as text to `out`. A status other
-/// than `Sent` sends its line to `err`, and a fault of `err` changes no status.
+// Sends the lines of a report, if there are any, or a front of them where the sink fails.
+fn send_report<E: Sink>(text: &str, err: &mut E)
+    ensures silent { text.now ≡ [] → err.new ≡ err.old }
+    ensures told { Still (E.faults err.old) (E.faults err.new) → E.sent err.new ≡ appended (E.sent err.old) text.now }
+    ensures front { IsSentFront (E.sent err.old) (E.sent err.new) text.now }
+{
+    if !text.is_empty() {
+        let _ = send_all(err, text.as_bytes());
+    }
+}
+
+/// Reads a unit as JSON from `source`. For `write` it sends the unit's bytes and its report as text to `out`; for `raw` the bytes to
+/// `out`, and then the report's lines to `err`. A status other than `Sent` sends its line to `err`, and a fault of `err` changes no
+/// status.
 ///
 /// Everything that is sent is made in memory first. Want of memory has its own status, and no other cause
 /// is told for it.
@@ -90,12 +131,13 @@ pub fn run<R: Source, S: Sink, E: Sink>(
     out: &mut S,
     err: &mut E,
 ) -> Status
-    // All was sent: the text tells the bytes and the report of the unit that the whole input stands for.
-    ensures sent { result ≡ Status.Sent → Reads (R.left source.old) (R.left source.new) (λ input. Receives (S.sent out.old) (S.sent out.new) input) }
-    ensures silent { result ≡ Status.Sent → err.new ≡ err.old }
+    // All was sent: what was asked for, of the unit that the whole input stands for.
+    ensures sent { result ≡ Status.Sent → Reads (R.left source.old) (R.left source.new) (λ input. Receives (map string_bytes words.now) input
+        (S.sent out.old) (S.sent out.new) (E.sent err.old) (E.sent err.new) (Still (E.faults err.old) (E.faults err.new))) }
+    ensures silent { word_of (map string_bytes words.now) ≡ Some Word.Write → result ≡ Status.Sent → err.new ≡ err.old }
 
     // Each other status has its cause.
-    ensures usage { (result ≡ Status.Usage) ↔ ¬ IsWrite (map string_bytes words.now) }
+    ensures usage { (result ≡ Status.Usage) ↔ (word_of (map string_bytes words.now) ≡ None) }
     ensures unread { result ≡ Status.Usage → source.new ≡ source.old }
     ensures source_fault { result ≡ Status.SourceFault → Rose (R.faults source.old) (R.faults source.new) }
     ensures source_count { (result ≡ Status.SourceFault) ⊎ (R.faults source.new ≡ R.faults source.old) }
@@ -113,14 +155,14 @@ pub fn run<R: Source, S: Sink, E: Sink>(
     ensures answer { (input : List ℕ) → IsGiven (map string_bytes words.now) input (R.left source.old) (R.faults source.old) (R.faults source.new) → (result ≡ Status.OutOfMemory) ⊎ IsAnswer input result }
     ensures complete { (input : List ℕ) → IsGiven (map string_bytes words.now) input (R.left source.old) (R.faults source.old) (R.faults source.new) → length input ≤ 2 ^ 26 → IsValid input → Still (S.faults out.old) (S.faults out.new) → (result ≡ Status.OutOfMemory) ⊎ (result ≡ Status.Sent) }
 
-    // What was sent: nothing to `out` but for a text, and to `err` the status's line.
-    ensures sink_front { result ≡ Status.SinkFault → Reads (R.left source.old) (R.left source.new) (λ input. ReceivesFront (S.sent out.old) (S.sent out.new) input) }
+    // What was sent: nothing to `out` but for a unit, and to `err` the line of a status that is another.
+    ensures sink_front { result ≡ Status.SinkFault → Reads (R.left source.old) (R.left source.new) (ReceivesFront (map string_bytes words.now) (S.sent out.old) (S.sent out.new)) }
     ensures unsent { (result ≡ Status.Sent) ⊎ (result ≡ Status.SinkFault) ⊎ (out.new ≡ out.old) }
-    ensures told { Still (E.faults err.old) (E.faults err.new) → E.sent err.new ≡ appended (E.sent err.old) (line_of result) }
-    ensures front { IsSentFront (E.sent err.old) (E.sent err.new) (line_of result) }
+    ensures told { (result ≡ Status.Sent) ⊎ (Still (E.faults err.old) (E.faults err.new) → E.sent err.new ≡ appended (E.sent err.old) (line_of result)) }
+    ensures front { (result ≡ Status.Sent) ⊎ IsSentFront (E.sent err.old) (E.sent err.new) (line_of result) }
 {
     match make(alloc, words, source) {
-        Ok(text) => send_text(alloc, text.as_str(), out, err),
+        Ok(output) => send_output(alloc, &output, out, err),
         Err(status) => report_status(alloc, status, err),
     }
 }

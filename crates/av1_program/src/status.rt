@@ -3,9 +3,9 @@ ghost use Rattle.std.specs.Prelude.{◌≡◌, ◌⊎◌, IfOk, IsOk, string_byt
 ghost use Rattle.std.specs.Cow.{cow_str_bytes};
 ghost use Rattle.av1_program.specs.Status.{number_of, line_of, HasFixedLine, place_text, refused_line, bad_script_line, too_long_line, bad_shape_line};
 
-use crate::shape::ShapeError;
 use av1_bits::ReadError;
 use av1_geometry::{OutOfMemory, Rule};
+use av1_input::ShapeError;
 use av1_unit::{Place, UnitError};
 use std::alloc::Global;
 use std::borrow::CowStr;
@@ -40,7 +40,8 @@ pub enum Status {
     /// innermost trial's. At its end, the place after the last item, a trial has not ended.
     BadScript { tile: u32, item: usize },
 
-    /// A step of the unit would begin here after more than 2^28 bits, and nothing before it is wrong.
+    /// A step of the unit would begin here after more than 2^28 bits, or the payload of this OBU has 2^32 bytes or more, and nothing
+    /// before it is wrong.
     TooLong { place: Place },
 
     /// A write failed.
@@ -78,7 +79,7 @@ impl Status {
     {
         let line = match self {
             Status::Sent => "",
-            Status::Usage => "usage: av1_write write\n",
+            Status::Usage => "usage: av1_write write | raw\n",
             Status::SourceFault => "source fault\n",
             Status::TooLarge => "input too large\n",
             Status::BadText => "bad text\n",
@@ -123,7 +124,10 @@ fn place_text(alloc: Global, place: Place) -> Result<String, OutOfMemory>
 {
     match place {
         Place::Tables => Ok(String::from_str(alloc, "tables")?),
+        Place::Sequence => Ok(String::from_str(alloc, "sequence")?),
         Place::Frame => Ok(String::from_str(alloc, "frame")?),
+        Place::Metadata { index } => Ok(format!(in alloc; "metadata {index}")?),
+        Place::Scripts => Ok(String::from_str(alloc, "scripts")?),
         Place::Item { tile, item } => Ok(format!(in alloc; "tile {tile} item {item}")?),
         Place::Obu { index } => Ok(format!(in alloc; "obu {index}")?),
     }

@@ -1,6 +1,6 @@
 // The text that tells a unit's bytes and its report.
 ghost use Rattle.std.specs.Prelude.{◌≡◌, ◌++◌, IfOk, OnOk, string_bytes};
-ghost use Rattle.av1_program.specs.Text.{tile_line, trial_end, trial_line, tile_lines, trial_lines, unit_text};
+ghost use Rattle.av1_program.specs.Text.{tile_line, trial_end, trial_line, tile_lines, trial_lines, report_text, unit_text};
 
 use av1_geometry::OutOfMemory;
 use av1_unit::{Report, TileReport, TrialCost};
@@ -50,6 +50,16 @@ fn add_trials(text: &mut String, trials: &[TrialCost]) -> Result<(), OutOfMemory
         add_trial(text, trial)?;
     }
     Ok(())
+}
+
+/// A line `tile N BYTES BITS` for each tile, and a line `trial TILE ITEM EIGHTHS kept` or `.. abandoned` for each trial.
+pub fn report_text(alloc: Global, report: &Report) -> Result<String, OutOfMemory>
+    ensures { IfOk result (λ text. string_bytes text ≡ report_text report.now) }
+{
+    let mut text = String::new(alloc);
+    add_tiles(&mut text, &report.tiles)?;
+    add_trials(&mut text, &report.trials)?;
+    Ok(text)
 }
 
 /// The bytes in lower-case hex digits on a line, a line `tile N BYTES BITS` for each tile, and a line

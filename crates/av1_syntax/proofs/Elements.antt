@@ -31,7 +31,7 @@ use Rattle.av1_syntax.proofs.Gathering.{larger, context_bound, large_has, contex
 use Rattle.av1_syntax.proofs.Slots.{skip_has, filter_intra_has, kf_y_has, y_mode_has, uv_mode_has, uv_mode_cfl_has, angle_delta_has, palette_y_has, palette_uv_has}
 use Rattle.av1_syntax.proofs.Values.{flag_told, flag_past, flag_named, mode_below_told, mode_below_past, mode_below_named, mode_below_small, angle_told, angle_past, angle_named, angle_small, sides_of_eight}
 
-flag_reads : (q : Distribution) → HasSymbols q 2 → Reads HasSymbols (flag q) (λ on. Unit {0}) 1
+pub flag_reads : (q : Distribution) → HasSymbols q 2 → Reads HasSymbols (flag q) (λ on. Unit {0}) 1
 flag_reads q h =
     reads_as HasSymbols (flag q) (λ on. flag_of (flag_number on) ≡ Some on) (λ on. Unit {0}) 1 1 (λ on e. tt) (λ on t. flag_told on) (omega arith) (symbol_reads HasSymbols q 2 flag_of flag_number h flag_past flag_named)
 
@@ -95,7 +95,7 @@ only_off : (on : Bool) → on ≡ false → off_of (flag_number on) ≡ Some on
 only_off true h = cc
 only_off false h = refl
 
-off_reads : (asked : Bool) (q : Distribution) → HasSymbols q 2 → Reads HasSymbols (off_where asked q) (λ on. on ≡ false) 1
+pub off_reads : (asked : Bool) (q : Distribution) → HasSymbols q 2 → Reads HasSymbols (off_where asked q) (λ on. on ≡ false) 1
 off_reads asked q h =
     choose_reads HasSymbols asked (symbol q off_of flag_number) (known false) (λ on. on ≡ false) 1
     (λ e. reads_as HasSymbols (symbol q off_of flag_number) (λ on. off_of (flag_number on) ≡ Some on) (λ on. on ≡ false) 1 1 off_only only_off (omega arith) (symbol_reads HasSymbols q 2 off_of flag_number h off_past off_named))

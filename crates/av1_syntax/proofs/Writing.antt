@@ -48,7 +48,7 @@ pub chosen_last : {A U E : Type 0} (r : Result U E) (b : Bool) (e f : Element Di
 chosen_last r b e f a old new h w = subst (λ (b : Bool). Wrote coded_by (learnt true) r (choose b e f).tree a old new) (sym h) w
 
 -- bits that are as likely as not
-even_flat : IsFlat coded_by (learnt true) Even
+pub even_flat : IsFlat coded_by (learnt true) Even
 even_flat = record { even = λ c. refl; same = λ c s. refl }
 
 pub literal_near : (p : Position) (bits v : ℕ) → IsInterval (interval_of p) → (advance_all p (flat_tokens (bits_of bits v))).shift ≤ p.shift + 13 * bits

@@ -14,10 +14,10 @@ use std::alloc::Global;
 use std::process::Abort;
 use std::test::Fail;
 
-const CORNER: TileBlockOffset = TileBlockOffset(BlockOffset { x: 0, y: 0 });
+pub(crate) const CORNER: TileBlockOffset = TileBlockOffset(BlockOffset { x: 0, y: 0 });
 
 // A tile of so many columns and rows.
-fn fresh(alloc: Global, cols: usize, rows: usize) -> Result<ContextWriter, OutOfMemory>
+pub(crate) fn fresh(alloc: Global, cols: usize, rows: usize) -> Result<ContextWriter, OutOfMemory>
     requires { cols * rows ≤ 2 ^ 22 }
     ensures cdfs { IfOk result (λ cw. AreCdfs cw.fc) }
     ensures cols { IfOk result (λ cw. cw.bc.blocks.cols ≡ cols) }
@@ -30,7 +30,7 @@ fn fresh(alloc: Global, cols: usize, rows: usize) -> Result<ContextWriter, OutOf
 }
 
 // The bits that an encoder tells, and its bytes.
-fn ends(
+pub(crate) fn ends(
     rt: &impl Abort,
     w: WriterBase<WriterEncoder>,
     bits: u32,

@@ -3,10 +3,12 @@ use crate::reader::PlainReader;
 use av1_bits::MemSink;
 use av1_cdf::{Tables, check_tables};
 use av1_ec::{Writer, WriterCounter};
-use av1_geometry::{BlockOffset, BlockSize, OutOfMemory, Rule, TileBlockOffset};
+use av1_geometry::{BlockOffset, BlockSize, ChromaSampling, OutOfMemory, Rule, TileBlockOffset};
 use av1_unit::{
-    Item, Place, Report, StepFault, TileReport, TileScript, TileState, TileStep, TrialCost, Unit,
-    UnitError, Via, check_frame, check_step, count_tile, law_of_steps, unit_bytes, write_unit,
+    ContentLight, FrameInvariants, FrameState, Item, Metadata, Place, Report, Sequence, StepFault,
+    TileReport, TileScript, TileState, TileStep, TrialCost, Unit, UnitError, Via, check_frame,
+    check_sequence, check_step, count_tile, law_of_steps, law_of_tile_counts, unit_bytes,
+    write_unit,
 };
 use std::alloc::{AllocError, Global};
 use std::process::Abort;
@@ -29,15 +31,36 @@ fn begin(x: usize, y: usize) -> Item {
     Item::Begin(TileBlockOffset(BlockOffset { x, y }))
 }
 
+// A still picture without chroma, in one tile.
 fn unit(alloc: Global, side: usize, items: &[Item]) -> Result<Unit, Fail> {
+    let mut unit = grey(alloc, side, side)?;
+    let items = items.to_vec(alloc)?;
+    unit.scripts.push(TileScript { items })?;
+    Ok(unit)
+}
+
+// The same of any sides, without scripts.
+fn grey(alloc: Global, width: usize, height: usize) -> Result<Unit, Fail> {
+    let mut sequence = Sequence::default();
+    sequence.chroma_sampling = ChromaSampling::Cs400;
     Ok(Unit {
         tables: Tables::uniform(alloc)?,
-        width: side,
-        height: side,
-        script: TileScript {
-            items: items.to_vec(alloc)?,
-        },
+        fi: FrameInvariants::new(sequence, width, height),
+        fs: FrameState::default(),
+        refs: [None; 8],
+        metadata: Vec::new(alloc),
+        delimiter: true,
+        scripts: Vec::new(alloc),
     })
+}
+
+// So many scripts without items.
+fn add_scripts(alloc: Global, unit: &mut Unit, count: usize) -> Result<(), Fail> {
+    for _ in 0..count {
+        let items = Vec::new(alloc);
+        unit.scripts.push(TileScript { items })?;
+    }
+    Ok(())
 }
 
 fn written(alloc: Global, unit: &Unit) -> Result<(Vec<u8>, Report), UnitError> {
@@ -77,7 +100,9 @@ fn reads_back(
         return Err("a short unit".into());
     };
     let mut reader = PlainReader::new(tile);
-    let script = &unit.script;
+    let Some(script) = unit.scripts.first() else {
+        return Err("no script".into());
+    };
     for step in surviving(alloc, &script.items)?.iter() {
         let want = match step {
             TileStep::Skip { answer } => Some(*answer),
@@ -126,9 +151,13 @@ fn step<W: Writer>(tile: &mut TileState, w: &mut W, step: &TileStep) -> Result<b
 // The state that a tile of an empty 8x8 frame begins with.
 fn first_state(alloc: Global) -> Result<TileState, Fail> {
     let unit = unit(alloc, 8, &[])?;
-    if check_tables(&unit.tables).is_some() || check_frame(&unit).is_some() {
+    if check_tables(&unit.tables).is_some() || check_sequence(&unit.fi.sequence).is_some() {
         return Err("a broken rule".into());
     }
+    if check_frame(&unit.fi, &unit.fs, &unit.refs).is_some() {
+        return Err("a broken rule".into());
+    }
+    law_of_tile_counts();
     Ok(TileState::new(alloc, &unit, 0)?)
 }
 
@@ -169,12 +198,20 @@ fn steps_are_written_one_by_one(rt: HostRuntime) -> Result<(), Fail> {
     Ok(())
 }
 
+// What is told of the first tile.
+fn counted(alloc: Global, unit: &Unit) -> Result<Result<TileReport, UnitError>, Fail> {
+    if unit.scripts.len() == 0 {
+        return Err("no script".into());
+    }
+    Ok(count_tile(alloc, unit, 0))
+}
+
 #[test]
 fn a_tile_is_counted(rt: HostRuntime) -> Result<(), Fail> {
     let alloc = rt.alloc();
     let b8 = block(0, 0, BlockSize::BLOCK_8X8);
     let valid = unit(alloc, 8, &[b8, skip(false)])?;
-    match count_tile(alloc, &valid, 0) {
+    match counted(alloc, &valid)? {
         Ok(told) => assert_eq!(rt; (told.bytes, told.bits), (1, 3)),
         Err(_) => return Err("not counted".into()),
     }
@@ -183,7 +220,7 @@ fn a_tile_is_counted(rt: HostRuntime) -> Result<(), Fail> {
         place: Place::Item { tile: 0, item: 0 },
         rule: Rule(64),
     };
-    match count_tile(alloc, &refused, 0) {
+    match counted(alloc, &refused)? {
         Ok(_) => return Err("counted".into()),
         Err(error) => assert_eq!(rt; error, want),
     }
@@ -202,7 +239,7 @@ fn a_script_may_be_long(rt: HostRuntime) -> Result<(), Fail> {
     let Ok((_, report)) = written(alloc, &unit) else {
         return Err("not written".into());
     };
-    let Ok(told) = count_tile(alloc, &unit, 0) else {
+    let Ok(told) = counted(alloc, &unit)? else {
         return Err("not counted".into());
     };
     assert_eq!(rt; report.tiles.as_slice(), [told].as_slice());
@@ -221,6 +258,91 @@ fn sides_of_64_are_written_in_six_bits(rt: HostRuntime) -> Result<(), Fail> {
         0x12, 0x00, 0x0a, 0x06, 0x18, 0x15, 0x7f, 0xfc, 0x04, 0x40, 0x32,
     ];
     assert!(rt; bytes.starts_with(&want));
+    Ok(())
+}
+
+// The bytes of a unit in hex digits, and its tiles; or the error.
+fn told(alloc: Global, unit: &Unit) -> Result<String, Fail> {
+    match written(alloc, unit) {
+        Ok((bytes, report)) => {
+            let mut text = hex::encode(alloc, &bytes)?;
+            for tile in report.tiles.iter() {
+                text = format!(in alloc; "{text} {} {}", tile.bytes, tile.bits)?;
+            }
+            Ok(text)
+        }
+        Err(error) => Ok(format!(in alloc; "{error:?}")?),
+    }
+}
+
+// A still picture of two superblocks, each of which is a tile.
+fn two_tiles(alloc: Global, scripts: usize) -> Result<Unit, Fail> {
+    let mut unit = grey(alloc, 128, 64)?;
+    unit.fi.tile_width_sb = 1;
+    add_scripts(alloc, &mut unit, scripts)?;
+    Ok(unit)
+}
+
+#[test]
+fn tiles_are_led_by_their_sizes(rt: HostRuntime) -> Result<(), Fail> {
+    let alloc = rt.alloc();
+    let want = "12000a0618197ffe02203209186400000000008080 1 1 1 1";
+    assert_eq!(rt; told(alloc, &two_tiles(alloc, 2)?)?.as_str(), want);
+    let want = "Refused { place: Scripts, rule: Rule(55) }";
+    assert_eq!(rt; told(alloc, &two_tiles(alloc, 1)?)?.as_str(), want);
+    Ok(())
+}
+
+#[test]
+fn a_unit_may_have_no_delimiter(rt: HostRuntime) -> Result<(), Fail> {
+    let alloc = rt.alloc();
+    let mut unit = unit(alloc, 8, &[])?;
+    unit.delimiter = false;
+    let want = "0a051808bf01103206164000000080 1 1";
+    assert_eq!(rt; told(alloc, &unit)?.as_str(), want);
+    Ok(())
+}
+
+#[test]
+fn metadata_come_before_the_frame(rt: HostRuntime) -> Result<(), Fail> {
+    let alloc = rt.alloc();
+    let mut unit = unit(alloc, 8, &[])?;
+    unit.metadata.push(Metadata::Cll)?;
+    let want = "Refused { place: Metadata { index: 0 }, rule: Rule(50) }";
+    assert_eq!(rt; told(alloc, &unit)?.as_str(), want);
+    unit.fi.sequence.content_light = Some(ContentLight {
+        max_content_light_level: 1000,
+        max_frame_average_light_level: 400,
+    });
+    let want = "12000a051808bf01102a060103e80190803206164000000080 1 1";
+    assert_eq!(rt; told(alloc, &unit)?.as_str(), want);
+    Ok(())
+}
+
+#[test]
+fn a_frame_that_does_not_learn_is_refused(rt: HostRuntime) -> Result<(), Fail> {
+    let alloc = rt.alloc();
+    let mut unit = unit(alloc, 8, &[])?;
+    unit.fi.disable_cdf_update = true;
+    let want = "Refused { place: Frame, rule: Rule(22) }";
+    assert_eq!(rt; told(alloc, &unit)?.as_str(), want);
+    Ok(())
+}
+
+#[test]
+fn there_may_be_64_by_64_tiles(rt: HostRuntime) -> Result<(), Fail> {
+    const TILES: usize = 4096;
+    let alloc = rt.alloc();
+    let mut unit = grey(alloc, 4096, 4096)?;
+    unit.fi.tile_width_sb = 1;
+    unit.fi.tile_height_sb = 1;
+    add_scripts(alloc, &mut unit, TILES)?;
+    let Ok((bytes, report)) = written(alloc, &unit) else {
+        return Err("not written".into());
+    };
+    assert_eq!(rt; report.tiles.len(), TILES);
+    // the last tiles, each with a size of 0 in one byte but for the last
+    assert!(rt; bytes.ends_with(&[0x00, 0x80, 0x00, 0x80, 0x80]));
     Ok(())
 }
 

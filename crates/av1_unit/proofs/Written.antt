@@ -1,120 +1,224 @@
 -- What is coded and framed is what the headline promises.
-use Rattle.std.proofs.Common.{◌≡◌, ℕ, ◌+◌, Bool, true, false, Option, List, [], ◌∷◌, None, Some, length, map, refl, sym, ◌∙◌, ap, subst, if◌then◌else◌}
-use Rattle.std.specs.Option.{option_map_or}
-use Rattle.av1_model.specs.Interval.{Holds, bits, final_bytes}
-use Rattle.av1_model.specs.Reading.{Coding}
-use Rattle.av1_model.proofs.Final.{holds_final}
-use Rattle.av1_unit.specs.declared.error.UnitError.{UnitError}
-use Rattle.av1_unit.specs.declared.unit.Item.{Item}
-use Rattle.av1_unit.specs.declared.unit.Unit.{Unit}
-use Rattle.av1_unit.specs.declared.error.Place.TheVariants.{Tables, Frame}
-use Rattle.av1_unit.specs.declared.error.StepFault.{StepFault}
-use Rattle.av1_unit.specs.declared.error.StepFault.TheVariants.{TooLong, Broken}
-use Rattle.av1_unit.specs.declared.error.UnitError.TheVariants.{Refused, BadScript, SinkFault}
-use Rattle.av1_unit.specs.Report.{ReportLists}
-use Rattle.av1_unit.specs.declared.report.TileReport.{TileReport}
-use Rattle.av1_unit.specs.Tile.{Tile}
+use Rattle.std.proofs.Common.{◌≡◌, ◌⊎◌, inl, inr, ℕ, ◌+◌, ◌^◌, ◌≤◌, Bool, true, false, Option, List, [], ◌∷◌, None, Some, option_map, length, map, nat_lt, refl, sym, ◌∙◌, ap, subst, arith, if◌then◌else◌}
+use Rattle.std.specs.Prelude.{◌==◌}
+use Rattle.std.specs.List.{enumerate_from}
+use Rattle.std.proofs.lemmas.Bool.Decides.{nat_tests}
 use Rattle.av1_cdf.specs.Tables.{table_rules}
+use Rattle.av1_frame.specs.FrameRules.{frame_rules}
+use Rattle.av1_frame.specs.MetadataRules.{metadata_rules}
+use Rattle.av1_frame.specs.SequenceRules.{sequence_rules}
+use Rattle.av1_frame.specs.declared.metadata.Metadata.{Metadata}
+use Rattle.av1_frame.specs.declared.sequence.Sequence.{Sequence}
+use Rattle.av1_geometry.specs.Rules.{Check, first_broken, rule}
 use Rattle.av1_geometry.specs.declared.error.Rule.{Rule}
-use Rattle.av1_geometry.specs.Rules.{first_broken}
-use Rattle.av1_unit.specs.Script.{after_all}
-use Rattle.av1_unit.specs.Trials.{Progress, surviving, moved, moved_all, misplaced, item_fault, error_of, no_trial, first_wrong}
-use Rattle.av1_unit.specs.Framing.{given_of, framed}
-use Rattle.av1_unit.specs.Header.{base_q_idx}
-use Rattle.av1_cdf.proofs.Learning.{cdfs_of_tables}
-use Rattle.av1_unit.specs.Headline.{frame_rules, begin, started, scripts_of, ending, first_refusal, trial_costs, IsTile, AreTiles, IsWritten}
-use Rattle.av1_unit.specs.Step.{question_of}
-use Rattle.av1_unit.proofs.ReadingBack.{sound_after_all, read_all, read_is}
-use Rattle.av1_unit.proofs.Surviving.{none_match, survives}
-use Rattle.av1_unit.proofs.Fresh.{fresh_sound}
+use Rattle.av1_model.specs.Interval.{final_bytes}
+use Rattle.av1_tile.specs.declared.error.Place.{Place}
+use Rattle.av1_tile.specs.declared.error.Place.TheVariants as places
+use Rattle.av1_tile.specs.declared.error.UnitError.{UnitError}
+use Rattle.av1_tile.specs.declared.error.UnitError.TheVariants.{OutOfMemory, Refused, SinkFault, TooLong}
+use Rattle.av1_tile.specs.declared.report.TileReport.{TileReport}
+use Rattle.av1_tile.specs.declared.unit.Item.{Item}
+use Rattle.av1_tile.specs.Given.{Given, tile_count, IsGiven}
+use Rattle.av1_tile.specs.TileBytes.{ending, tile_report, wrong_in}
+use Rattle.av1_unit.specs.Checked.{IsChecked}
+use Rattle.av1_unit.specs.Coded.{Numbered, numbered, report_of, tiles_of, told_of}
+use Rattle.av1_unit.specs.Findings.{broken_at, first_of, first_refusal, length_wrong, lengths_wrong, message_wrong, messages_wrong, places_before, places_behind, script_rules, scripts_wrong}
+use Rattle.av1_unit.specs.Framing.{Obu, framed, obus}
+use Rattle.av1_unit.specs.Headline.{bytes_of, AreTiles, IsWritten}
+use Rattle.av1_unit.specs.Plain.{PlainUnit}
+use Rattle.av1_unit.specs.Report.{ReportLists}
+use Rattle.av1_unit.proofs.Places.{first_of-both, first_of-here, first_of-next, first_of-none, first_of-some}
+use Rattle.av1_unit.proofs.TileLaws.{no_sink_in_script, only_tile, tile_of_script}
 
-pub written : (u : Unit) (bytes tile : List ℕ) (n : ℕ) (report : ReportLists) → first_broken (table_rules u.tables) ≡ None → first_broken (frame_rules u) ≡ None → first_wrong 0 (started (begin (given_of u) 0)) u.script ≡ None
-    → tile ≡ final_bytes (ending u) → n ≡ bits (ending u) → bytes ≡ framed (given_of u) (tile ∷ [])
-    → report ≡ record { tiles = record { bytes = length tile; bits = n } ∷ []; trials = trial_costs u } → IsWritten u bytes report
-written u bytes tile n report tables frame right final counted framed_is told =
-    let at = begin (given_of u) 0 in
-    let steps = surviving u.script in
-    let end = after_all at steps in
-    let s = survives at u.script 0 at [] [] [] [] refl refl (none_match at) right in
-    let ends : (moved_all 0 (started at) u.script).at ≡ end = s.0 in
-    let sound = fresh_sound at.context.number at.context.cols at.context.rows at.context.numbers (cdfs_of_tables u.tables base_q_idx tables) in
-    let valid = sound_after_all 0 at steps sound s.1 in
-    let final : tile ≡ final_bytes end.interval = final ∙ ap (λ (a : Coding Tile). final_bytes a.interval) ends in
-    let counted : n ≡ bits end.interval = counted ∙ ap (λ (a : Coding Tile). bits a.interval) ends in
-    let held : Holds tile end.interval = subst (λ (bs : List ℕ). Holds bs end.interval) (sym final) (holds_final end.interval valid.interval) in
-    let one : TileReport = record { bytes = length tile; bits = n } in
-    let is_tile : IsTile (given_of u) 0 u.script tile one =
-    record { end = end; reads_back = read_all tile 0 at steps sound s.1 held; final = final; reported = ap (λ k. record { bytes = length tile; bits = k }) counted } in
-    let tiles : report.tiles ≡ one ∷ [] = ap (λ (r : ReportLists). r.tiles) told in
+-- nothing wrong at any place
+pub valid_unit : (u : PlainUnit) → first_of (places_before u) ≡ None → scripts_wrong u.given (numbered u) ≡ None → lengths_wrong 0 (obus u.given (tiles_of u.given (numbered u))) ≡ None
+    → first_refusal u ≡ None
+unfolding first_refusal places_behind
+valid_unit u before scripts lengths =
+    let long = lengths_wrong 0 (obus u.given (tiles_of u.given (numbered u))) in
+    first_of-none (places_before u) (places_behind u) before ∙ first_of-next (scripts_wrong u.given (numbered u)) (long ∷ []) scripts ∙ first_of-next long [] lengths
+
+pub wrong_before : (u : PlainUnit) (e : UnitError) → first_of (places_before u) ≡ Some e → first_refusal u ≡ Some e
+unfolding first_refusal
+wrong_before u e h = first_of-some (places_before u) (places_behind u) e h
+
+pub wrong_script : (u : PlainUnit) (e : UnitError) → first_of (places_before u) ≡ None → scripts_wrong u.given (numbered u) ≡ Some e → first_refusal u ≡ Some e
+unfolding first_refusal places_behind
+wrong_script u e before h =
+    first_of-none (places_before u) (places_behind u) before
+    ∙ first_of-here (scripts_wrong u.given (numbered u)) (lengths_wrong 0 (obus u.given (tiles_of u.given (numbered u))) ∷ []) e h
+
+pub wrong_length : (u : PlainUnit) (e : UnitError) → first_of (places_before u) ≡ None → scripts_wrong u.given (numbered u) ≡ None
+    → lengths_wrong 0 (obus u.given (tiles_of u.given (numbered u))) ≡ Some e → first_refusal u ≡ Some e
+unfolding first_refusal places_behind
+wrong_length u e before scripts h =
+    let long = lengths_wrong 0 (obus u.given (tiles_of u.given (numbered u))) in
+    first_of-none (places_before u) (places_behind u) before ∙ first_of-next (scripts_wrong u.given (numbered u)) (long ∷ []) scripts ∙ first_of-here long [] e h
+
+-- and what is known of a valid unit
+pub record IsRight (u : PlainUnit) : Type 0 where
+  pub before : first_of (places_before u) ≡ None
+  pub scripts : scripts_wrong u.given (numbered u) ≡ None
+  pub lengths : lengths_wrong 0 (obus u.given (tiles_of u.given (numbered u))) ≡ None
+
+pub right_unit : (u : PlainUnit) → first_refusal u ≡ None → IsRight u
+unfolding first_refusal places_behind
+right_unit u h =
+    let long = lengths_wrong 0 (obus u.given (tiles_of u.given (numbered u))) in
+    let all = first_of-both (places_before u) (places_behind u) h in
+    let last = first_of-both (scripts_wrong u.given (numbered u) ∷ []) (long ∷ []) all.1 in
+    record { before = all.0; scripts = alone (scripts_wrong u.given (numbered u)) last.0; lengths = alone long last.1 }
+  where
+    alone : (place : Option UnitError) → first_of (place ∷ []) ≡ None → place ≡ None
+    alone None e = refl
+    alone (Some x) e = absurd cc
+
+first_script : (g : Given) (k : ℕ) (items : List Item) (scripts : List (List Item)) → scripts_wrong g (enumerate_from k (items ∷ scripts)) ≡ None → (wrong_in g k items ≡ None) × (scripts_wrong g (enumerate_from (k + 1) scripts) ≡ None)
+unfolding scripts_wrong
+first_script g k items scripts h = neither (wrong_in g k items) (map (λ s. wrong_in g s.0 s.1) (enumerate_from (k + 1) scripts)) h
+  where
+    neither : (place : Option UnitError) (places : List (Option UnitError)) → first_of (place ∷ places) ≡ None → (place ≡ None) × (first_of places ≡ None)
+    neither None places e = (refl, e)
+    neither (Some x) places e = absurd cc
+
+-- scripts with which nothing is wrong have these tiles
+pub are_tiles : (g : Given) (k : ℕ) (scripts : List (List Item)) → IsGiven g → k + length scripts ≤ tile_count g.fi → scripts_wrong g (enumerate_from k scripts) ≡ None → AreTiles g k scripts (tiles_of g (enumerate_from k scripts)) (told_of g (enumerate_from k scripts))
+unfolding tiles_of told_of
+are_tiles g k [] given inside right = (refl, refl)
+are_tiles g k (items ∷ scripts) given inside right =
+    let f = first_script g k items scripts right in
+    (tile_of_script g k items given (omega (arith, inside)) f.0, are_tiles g (k + 1) scripts given (omega (arith, inside)) f.1)
+
+-- and no others
+pub record OnlyTiles (g : Given) (scripts : List Numbered) (tiles : List (List ℕ)) (told : List TileReport) : Type 0 where
+  pub tiles_are : tiles ≡ tiles_of g scripts
+  pub told_are : told ≡ told_of g scripts
+
+pub only_tiles : (g : Given) (k : ℕ) (scripts : List (List Item)) (tiles : List (List ℕ)) (told : List TileReport) → IsGiven g → k + length scripts ≤ tile_count g.fi → scripts_wrong g (enumerate_from k scripts) ≡ None → AreTiles g k scripts tiles told
+    → OnlyTiles g (enumerate_from k scripts) tiles told
+unfolding tiles_of told_of
+only_tiles g k [] tiles told given inside right (no_tiles, no_told) = record { tiles_are = no_tiles; told_are = no_told }
+only_tiles g k (items ∷ scripts) [] told given inside right each = absurd each
+only_tiles g k (items ∷ scripts) (tile ∷ tiles) [] given inside right each = absurd each
+only_tiles g k (items ∷ scripts) (tile ∷ tiles) (told ∷ more) given inside right (is, others) =
+    let f = first_script g k items scripts right in
+    let one = only_tile g k items tile told given (omega (arith, inside)) f.0 is in
+    let rest = only_tiles g (k + 1) scripts tiles more given (omega (arith, inside)) f.1 others in
     record {
-      valid = ap (λ o. option_map_or (λ rule. Some (Refused Tables rule)) o (option_map_or (λ rule. Some (Refused Frame rule)) (first_broken (frame_rules u)) (first_wrong 0 (started at) u.script))) tables
-          ∙ ap (λ o. option_map_or (λ rule. Some (Refused Frame rule)) o (first_wrong 0 (started at) u.script)) frame ∙ right;
-      tiles = tile ∷ [];
-      framed_unit = framed_is;
-      each = subst (λ (ts : List TileReport). AreTiles (given_of u) 0 (u.script ∷ []) (tile ∷ []) ts) (sym tiles) (is_tile, (refl, refl));
+      tiles_are = ap (λ t. t ∷ tiles) one.is ∙ ap (λ (ts : List (List ℕ)). final_bytes (ending g k items) ∷ ts) rest.tiles_are;
+      told_are = ap (λ t. t ∷ more) one.told_is ∙ ap (λ (ts : List TileReport). tile_report g k items ∷ ts) rest.told_are;
+    }
+
+pub not_broken : (place : Place) (rules : List Check) → broken_at place rules ≡ None → first_broken rules ≡ None
+not_broken place rules h = none_of (first_broken rules) h
+  where
+    none_of : (o : Option Rule) → option_map (Refused place) o ≡ None → o ≡ None
+    none_of None e = refl
+    none_of (Some r) e = absurd cc
+
+same_count : (n m : ℕ) → first_broken (rule 55 (n == m) ∷ []) ≡ None → n ≡ m
+same_count n m h = tested (n == m) refl h
+  where
+    tested : (b : Bool) → b ≡ (n == m) → first_broken (rule 55 b ∷ []) ≡ None → n ≡ m
+    tested true e k = grind (arith, nat_tests)
+    tested false e k = absurd cc
+
+-- what is known where nothing is wrong before the scripts
+pub checked_unit : (u : PlainUnit) → first_of (places_before u) ≡ None → IsChecked u
+unfolding places_before
+checked_unit u h =
+    let a = parted (broken_at places.Tables (table_rules u.given.tables)) _ h in
+    let b = parted (broken_at places.Sequence (sequence_rules u.given.fi.sequence)) _ a.1 in
+    let c = parted (broken_at places.Frame (frame_rules u.given.fi u.given.fs u.given.refs)) _ b.1 in
+    let d = parted (messages_wrong u.given.fi.sequence (enumerate_from 0 u.given.metadata)) _ c.1 in
+    let e = parted (broken_at places.Scripts (script_rules u)) [] d.1 in
+    record {
+      given = record {
+        tables = not_broken places.Tables (table_rules u.given.tables) a.0;
+        sequence = not_broken places.Sequence (sequence_rules u.given.fi.sequence) b.0;
+        frame = not_broken places.Frame (frame_rules u.given.fi u.given.fs u.given.refs) c.0;
+      };
+      messages = d.0;
+      scripts = same_count (length u.scripts) (tile_count u.given.fi) (not_broken places.Scripts (script_rules u) e.0);
+    }
+  where
+    parted : (place : Option UnitError) (places : List (Option UnitError)) → first_of (place ∷ places) ≡ None → (place ≡ None) × (first_of places ≡ None)
+    parted None places e = (refl, e)
+    parted (Some x) places e = absurd cc
+
+-- the bytes and the report of a unit with which nothing is wrong
+pub written : (u : PlainUnit) (bytes : List ℕ) (report : ReportLists) → IsRight u → bytes ≡ bytes_of u → report ≡ report_of u → IsWritten u bytes report
+written u bytes report right is told =
+    let checked = checked_unit u right.before in
+    let lists : report.tiles ≡ told_of u.given (numbered u) = ap (λ (r : ReportLists). r.tiles) told in
+    record {
+      valid = valid_unit u right.before right.scripts right.lengths;
+      tiles = tiles_of u.given (numbered u);
+      framed_unit = is;
+      each = subst (λ (ts : List TileReport). AreTiles u.given 0 u.scripts (tiles_of u.given (numbered u)) ts) (sym lists) (are_tiles u.given 0 u.scripts checked.given (omega (arith, checked.scripts)) right.scripts);
       trials = ap (λ (r : ReportLists). r.trials) told;
     }
 
-all_hold : (tables frame : Option Rule) (items : Option UnitError) → option_map_or (λ rule. Some (Refused Tables rule)) tables (option_map_or (λ rule. Some (Refused Frame rule)) frame items) ≡ None → (tables ≡ None) × (items ≡ None)
-all_hold None None items h = (refl, h)
-all_hold None (Some rule) items h = absurd cc
-all_hold (Some rule) frame items h = absurd cc
-
--- the only tile of a unit, and its report
-record OnlyTile (u : Unit) (tiles : List (List ℕ)) (told : List TileReport) : Type 0 where
-  only_tile : tiles ≡ final_bytes (ending u) ∷ []
-  only_told : told ≡ record { bytes = length (final_bytes (ending u)); bits = bits (ending u) } ∷ []
-
-the_tile : (u : Unit) (tiles : List (List ℕ)) (told : List TileReport) → first_refusal u ≡ None → AreTiles (given_of u) 0 (scripts_of u) tiles told → OnlyTile u tiles told
-the_tile u [] told valid each = absurd each
-the_tile u (tile ∷ tiles) [] valid each = absurd each
-the_tile u (tile ∷ tiles) (told ∷ more) valid (is, (no_tiles, no_more)) =
-    let at = begin (given_of u) 0 in
-    let a = all_hold (first_broken (table_rules u.tables)) (first_broken (frame_rules u)) (first_wrong 0 (started at) u.script) valid in
-    let s = survives at u.script 0 at [] [] [] [] refl refl (none_match at) a.1 in
-    let sound = fresh_sound at.context.number at.context.cols at.context.rows at.context.numbers (cdfs_of_tables u.tables base_q_idx a.0) in
-    let read = read_is tile 0 (map question_of (surviving u.script)) (surviving u.script) at is.end sound is.reads_back in
-    let ends : is.end.interval ≡ ending u = ap (λ (c : Coding Tile). c.interval) (read.ends ∙ sym s.0) in
-    let final : tile ≡ final_bytes (ending u) = is.final ∙ ap final_bytes ends in
-    record {
-      only_tile = ap (λ t. t ∷ tiles) final ∙ ap (λ ts. final_bytes (ending u) ∷ ts) no_tiles;
-      only_told = ap (λ t. t ∷ more) (is.reported ∙ ap (λ (t : List ℕ). record { bytes = length t; bits = bits is.end.interval }) final ∙ ap (λ i. record { bytes = length (final_bytes (ending u)); bits = bits i }) ends)
-          ∙ ap (λ ts. record { bytes = length (final_bytes (ending u)); bits = bits (ending u) } ∷ ts) no_more;
-    }
-
 -- what is promised of a unit that was written leaves no byte and no number open
-pub written_is : (u : Unit) (bytes : List ℕ) (report : ReportLists) → IsWritten u bytes report →
-    (bytes ≡ framed (given_of u) (final_bytes (ending u) ∷ [])) × (report ≡ record { tiles = record { bytes = length (final_bytes (ending u)); bits = bits (ending u) } ∷ []; trials = trial_costs u })
+pub written_is : (u : PlainUnit) (bytes : List ℕ) (report : ReportLists) → IsWritten u bytes report → (bytes ≡ bytes_of u) × (report ≡ report_of u)
 written_is u bytes report w =
-    let t = the_tile u w.tiles report.tiles w.valid w.each in
-    let told = t.only_told in
+    let right = right_unit u w.valid in
+    let checked = checked_unit u right.before in
+    let only = only_tiles u.given 0 u.scripts w.tiles report.tiles checked.given (omega (arith, checked.scripts)) right.scripts w.each in
+    let told = only.told_are in
     let trials = w.trials in
-    (w.framed_unit ∙ ap (framed (given_of u)) t.only_tile, λ i. record { tiles = told i; trials = trials i })
+    (w.framed_unit ∙ ap (framed u.given) only.tiles_are, λ i. record { tiles = told i; trials = trials i })
 
-no_sink_at_end : (b : Bool) (k n : ℕ) → (if b then None else Some (BadScript k n)) ≡ Some SinkFault → ⊥
-no_sink_at_end true k n h = cc
-no_sink_at_end false k n h = cc
+-- no place has a fault of a sink
+no_sink_in : (place : Option UnitError) (places : List (Option UnitError)) → (place ≡ Some SinkFault → ⊥) → (first_of places ≡ Some SinkFault → ⊥) → first_of (place ∷ places) ≡ Some SinkFault → ⊥
+no_sink_in None places here there h = there h
+no_sink_in (Some e) places here there h = here h
 
-no_sink_in_choice : {A : Type 0} (bad : Bool) (k n : ℕ) (say : A → UnitError) (broken : Option A) (rest : Option UnitError) → ((rule : A) → say rule ≡ SinkFault → ⊥) → (rest ≡ Some SinkFault → ⊥)
-    → (if bad then Some (BadScript k n) else option_map_or (λ rule. Some (say rule)) broken rest) ≡ Some SinkFault → ⊥
-no_sink_in_choice true k n say broken rest never other h = cc
-no_sink_in_choice false k n say None rest never other h = other h
-no_sink_in_choice false k n say (Some rule) rest never other h = never rule cc
+no_sink_in_rules : (place : Place) (rules : List Check) → broken_at place rules ≡ Some SinkFault → ⊥
+no_sink_in_rules place rules h = never (first_broken rules) h
+  where
+    never : (o : Option Rule) → option_map (Refused place) o ≡ Some SinkFault → ⊥
+    never None e = cc
+    never (Some r) e = cc
 
-no_sink_of_item : (k n : ℕ) (fault : StepFault) → error_of k n fault ≡ SinkFault → ⊥
-no_sink_of_item k n TooLong e = cc
-no_sink_of_item k n (Broken rule) e = cc
+no_sink_in_messages : (seq : Sequence) (n : ℕ) (ms : List Metadata) → messages_wrong seq (enumerate_from n ms) ≡ Some SinkFault → ⊥
+unfolding messages_wrong
+no_sink_in_messages seq n [] h = cc
+no_sink_in_messages seq n (m ∷ ms) h =
+    no_sink_in (message_wrong seq (n, m)) (map (message_wrong seq) (enumerate_from (n + 1) ms)) (no_sink_in_rules (places.Metadata n) (metadata_rules m seq)) (no_sink_in_messages seq (n + 1) ms) h
 
--- nothing that is wrong with items is a fault of a sink
-pub no_sink_in_items : (n : ℕ) (p : Progress) (items : List Item) → first_wrong n p items ≡ Some SinkFault → ⊥
-no_sink_in_items n p [] h = no_sink_at_end (no_trial p.trials) p.at.context.number n h
-no_sink_in_items n p (item ∷ items) h =
-    no_sink_in_choice (misplaced item p.at.context p.trials) p.at.context.number n (error_of p.at.context.number n) (item_fault item p.at) (first_wrong (n + 1) (moved n p item) items)
-    (no_sink_of_item p.at.context.number n) (no_sink_in_items (n + 1) (moved n p item) items) h
+no_sink_in_scripts : (g : Given) (n : ℕ) (scripts : List (List Item)) → scripts_wrong g (enumerate_from n scripts) ≡ Some SinkFault → ⊥
+unfolding scripts_wrong
+no_sink_in_scripts g n [] h = cc
+no_sink_in_scripts g n (items ∷ scripts) h =
+    no_sink_in (wrong_in g n items) (map (λ s. wrong_in g s.0 s.1) (enumerate_from (n + 1) scripts)) (no_sink_in_script g n items) (no_sink_in_scripts g (n + 1) scripts) h
+
+no_sink_in_length : (n size : ℕ) → length_wrong n size ≡ Some SinkFault → ⊥
+no_sink_in_length n size h = never (nat_lt size (2 ^ 32)) h
+  where
+    never : (b : Bool) → (if b then None else Some (TooLong (places.Obu n))) ≡ Some SinkFault → ⊥
+    never true e = cc
+    never false e = cc
+
+no_sink_in_lengths : (n : ℕ) (os : List Obu) → lengths_wrong n os ≡ Some SinkFault → ⊥
+unfolding lengths_wrong
+no_sink_in_lengths n [] h = cc
+no_sink_in_lengths n (o ∷ os) h =
+    no_sink_in (length_wrong n o.size) (map (λ p. length_wrong p.0 p.1.size) (enumerate_from (n + 1) os)) (no_sink_in_length n o.size) (no_sink_in_lengths (n + 1) os) h
 
 -- nothing that is wrong with a unit is a fault of a sink
-pub no_sink : (u : Unit) → first_refusal u ≡ Some SinkFault → ⊥
-no_sink u h =
-    no_sink_in_choice false 0 0 (λ rule. Refused Tables rule) (first_broken (table_rules u.tables))
-    (option_map_or (λ rule. Some (Refused Frame rule)) (first_broken (frame_rules u)) (first_wrong 0 (started (begin (given_of u) 0)) u.script)) (λ rule e. cc)
-    (no_sink_in_choice false 0 0 (λ rule. Refused Frame rule) (first_broken (frame_rules u)) (first_wrong 0 (started (begin (given_of u) 0)) u.script) (λ rule e. cc) (no_sink_in_items 0 (started (begin (given_of u) 0)) u.script)) h
+pub no_sink : (u : PlainUnit) → first_refusal u ≡ Some SinkFault → ⊥
+unfolding first_refusal places_before places_behind
+no_sink u =
+    no_sink_in (broken_at places.Tables (table_rules u.given.tables)) _ (no_sink_in_rules places.Tables (table_rules u.given.tables))
+    (no_sink_in (broken_at places.Sequence (sequence_rules u.given.fi.sequence)) _ (no_sink_in_rules places.Sequence (sequence_rules u.given.fi.sequence))
+    (no_sink_in (broken_at places.Frame (frame_rules u.given.fi u.given.fs u.given.refs)) _ (no_sink_in_rules places.Frame (frame_rules u.given.fi u.given.fs u.given.refs))
+    (no_sink_in (messages_wrong u.given.fi.sequence (enumerate_from 0 u.given.metadata)) _ (no_sink_in_messages u.given.fi.sequence 0 u.given.metadata)
+    (no_sink_in (broken_at places.Scripts (script_rules u)) _ (no_sink_in_rules places.Scripts (script_rules u))
+    (no_sink_in (scripts_wrong u.given (numbered u)) _ (no_sink_in_scripts u.given 0 u.scripts)
+    (no_sink_in (lengths_wrong 0 (obus u.given (tiles_of u.given (numbered u)))) [] (no_sink_in_lengths 0 (obus u.given (tiles_of u.given (numbered u)))) (λ e. cc)))))))
+
+-- an error of a unit is no fault of a sink
+pub not_sink : (u : PlainUnit) (e : UnitError) → (e ≡ OutOfMemory) ⊎ (first_refusal u ≡ Some e) → e ≡ SinkFault → ⊥
+not_sink u e (inl m) is = cc
+not_sink u e (inr wrong) is = no_sink u (wrong ∙ ap Some is)

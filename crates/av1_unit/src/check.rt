@@ -1,44 +1,65 @@
-// What is wrong with a unit before its items, and with a step.
-ghost use Rattle.std.specs.Prelude.{◌≡◌, ◌≢◌, None, Some, IfErr, OnErr, OnOk};
-ghost use Rattle.av1_cdf.specs.Tables.{table_rules};
+// What is wrong with a unit before its scripts.
+ghost use Rattle.std.specs.Prelude.{◌≡◌, option_map, OnOk};
+ghost use Rattle.std.specs.List.{enumerate_from};
 ghost use Rattle.av1_geometry.specs.Rules.{first_broken};
-ghost use Rattle.av1_unit.specs.Headline.{first_refusal, frame_rules};
-ghost use Rattle.av1_unit.specs.State.{tile_of};
-ghost use Rattle.av1_unit.specs.Step.{step_fault};
+ghost use Rattle.av1_tile.specs.declared.error.UnitError.TheVariants.{Refused};
+ghost use Rattle.av1_tile.specs.Given.{IsCut};
+ghost use Rattle.av1_unit.specs.Checked.{IsChecked};
+ghost use Rattle.av1_unit.specs.Findings.{Finds, first_of, messages_wrong, places_before, script_rules};
+ghost use Rattle.av1_unit.specs.Plain.{plain};
 
-use crate::frame::check_frame;
-use crate::tile::TileState;
-use crate::{Place, StepFault, TileStep, Unit, UnitError};
 use av1_cdf::check_tables;
+use av1_geometry::Rule;
+use av1_header::{TilingInfo, check_frame, check_metadata, check_sequence};
+use av1_tile::{Place, Unit, UnitError};
 
-/// The most bits after which a step may begin.
-const MOST_BITS: u32 = 1 << 28;
-
-/// Fails where a rule of the tables or of the frame is broken, with the first thing that is wrong with the unit.
+/// The first thing that is wrong before any script.
 pub(crate) fn check_unit(unit: &Unit) -> Result<(), UnitError>
-    ensures tables { OnOk result (first_broken (table_rules unit.now.tables) ≡ None) }
-    ensures frame { OnOk result (first_broken (frame_rules unit.now) ≡ None) }
-    ensures broken { OnErr result (first_broken (table_rules unit.now.tables) ≡ None → first_broken (frame_rules unit.now) ≢ None) }
-    ensures refused { IfErr result (λ e. first_refusal unit.now ≡ Some e) }
+    ensures found { Finds result (first_of (places_before (plain unit.now))) }
+    ensures checked { OnOk result (IsChecked (plain unit.now)) }
 {
-    if let Some(rule) = check_tables(&unit.tables) {
-        let place = Place::Tables;
-        return Err(UnitError::Refused { place, rule });
+    check_place(Place::Tables, check_tables(&unit.tables))?;
+    check_place(Place::Sequence, check_sequence(&unit.fi.sequence))?;
+    check_place(Place::Frame, check_frame(&unit.fi, &unit.fs, &unit.refs))?;
+    check_messages(unit)?;
+    check_place(Place::Scripts, check_scripts(unit))
+}
+
+// The error of a place that breaks this rule.
+fn check_place(place: Place, broken: Option<Rule>) -> Result<(), UnitError>
+    ensures { Finds result (option_map (Refused place) broken) }
+{
+    match broken {
+        Some(rule) => Err(UnitError::Refused { place, rule }),
+        None => Ok(()),
     }
-    if let Some(rule) = check_frame(unit) {
-        let place = Place::Frame;
-        return Err(UnitError::Refused { place, rule });
+}
+
+// The first metadata OBU that breaks a rule.
+fn check_messages(unit: &Unit) -> Result<(), UnitError>
+    ensures { Finds result (messages_wrong unit.now.fi.sequence (enumerate_from 0 unit.now.metadata.items)) }
+{
+    for (index, metadata) in unit.metadata.iter().enumerate() {
+        let broken = check_metadata(metadata, &unit.fi.sequence);
+        check_place(Place::Metadata { index }, broken)?;
     }
     Ok(())
 }
 
-/// What is wrong with a step that would begin in this state after so many bits: `TooLong` after more than 2^28, else the
-/// lowest rule that it breaks.
-pub fn check_step(state: &TileState, bits: u32, step: &TileStep) -> Option<StepFault>
-    ensures { result ≡ step_fault (tile_of state.now) bits step.now }
+// The rule of the scripts: there is one for each tile.
+fn check_scripts(unit: &Unit) -> Option<Rule>
+    requires { IsCut unit.now.fi }
+    ensures { result ≡ first_broken (script_rules (plain unit.now)) }
 {
-    if bits > MOST_BITS {
-        return Some(StepFault::TooLong);
+    let tiling = TilingInfo::of(
+        unit.fi.width.div_ceil(64),
+        unit.fi.height.div_ceil(64),
+        unit.fi.tile_width_sb,
+        unit.fi.tile_height_sb,
+    );
+    if unit.scripts.len() == tiling.cols * tiling.rows {
+        None
+    } else {
+        Some(Rule(55))
     }
-    state.broken_rule(step).map(StepFault::Broken)
 }

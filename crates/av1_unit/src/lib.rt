@@ -1,40 +1,38 @@
 //! From a unit, which says a frame and how its blocks are coded, to the bytes of an AV1 temporal unit.
 //!
-//! A unit is checked, its script is coded step by step into a tile, and headers and tile are framed as OBUs.
-//! Which symbols a step has is said once, by the tree that a reader goes down (`specs/Step.antt`); what is promised
-//! of the bytes is said in `specs/Headline.antt`.
+//! A unit is checked place by place, the script of each tile is coded step by step, and headers and tiles are framed as OBUs.
+//! What is wrong with a unit is said in `specs/Findings.antt`, what its bytes are in `specs/Framing.antt`, and what is promised
+//! of them in `specs/Headline.antt`.
 //!
-//! - `unit`: what is given: a frame, a script of steps
 //! - `write`: `unit_bytes`, `write_unit`, `count_tile`
-//! - `coding`: from the items of a script to the bytes of a tile
-//! - `tile`, `area`: the state of a tile, its rules, and one step in it (`write_step`)
-//! - `check`: what is wrong with a unit before its items, and with a step (`check_step`)
-//! - `frame`: the rules of a frame
-//! - `header`, `framing`: the bits of the headers, and the OBUs
-//! - `symbol`: one symbol
-//! - `report`, `error`: what is answered
-//! - `laws`: theorems of steps and of lists of steps
+//! - `check`: what is wrong with a unit before its scripts
+//! - `tiles`: the tiles of a unit, coded or counted
+//! - `lengths`: how long OBUs and tiles are
+//! - `framing`: the OBUs
+//! - `report`: what is answered
+//! - `laws`: theorems of written units
+//!
+//! The types of a unit and the steps of a tile are `av1_tile`'s, those of headers `av1_frame`'s, both handed on here.
 #![tactic(auto)]
 
-mod area;
 mod check;
-mod coding;
-mod error;
-mod frame;
 mod framing;
-mod header;
 mod laws;
+mod lengths;
 mod report;
-mod symbol;
-mod tile;
-mod unit;
+mod tiles;
 mod write;
 
-pub use check::check_step;
-pub use error::{Place, StepFault, UnitError};
-pub use frame::check_frame;
-pub use laws::{law_of_read_steps, law_of_reading_steps, law_of_steps, law_of_written_units};
-pub use report::{Report, TileReport, TrialCost};
-pub use tile::{CurrentBlock, TileState};
-pub use unit::{Item, TileScript, TileStep, Unit, Via};
+pub use av1_header::{
+    ALL_REF_FRAMES_MASK, ChromaticityPoint, ColorDescription, ContentLight, DeblockState,
+    FilmGrain, FrameInvariants, FrameState, MasteringDisplay, Metadata, PRIMARY_REF_NONE, Rational,
+    RefState, Refs, RestorationPlaneConfig, RestorationState, SegmentationState, Sequence, T35,
+    TilingInfo, check_frame, check_metadata, check_sequence,
+};
+pub use av1_tile::{
+    Item, Place, StepFault, TileReport, TileScript, TileState, TileStep, TrialCost, TrialMark,
+    Unit, UnitError, Via, check_step, law_of_read_steps, law_of_reading_steps, law_of_steps,
+};
+pub use laws::{law_of_taking_apart, law_of_tile_counts, law_of_written_units};
+pub use report::Report;
 pub use write::{count_tile, unit_bytes, write_unit};

@@ -1,4 +1,5 @@
 // What is told of a unit that was written.
+use av1_tile::{TileReport, TrialCost};
 use std::marker::Model;
 
 /// What each tile and each trial cost.
@@ -7,7 +8,7 @@ pub struct Report {
     /// The tiles, in raster order.
     pub tiles: Vec<TileReport>,
 
-    /// The trials, in the order of their beginnings.
+    /// The trials of each tile in the order of their beginnings, tile by tile.
     pub trials: Vec<TrialCost>,
 }
 
@@ -17,30 +18,4 @@ impl Model for Report {
     ghost Value = { ReportLists };
 
     ghost view = { λ r. record { tiles = r.tiles.items; trials = r.trials.items } };
-}
-
-/// A tile's length.
-#[derive(Clone, Copy, Debug, PartialEq, Eq)]
-pub struct TileReport {
-    /// How many bytes the tile has.
-    pub bytes: u32,
-
-    /// How many bits its symbols need, rounded up: the bytes hold these, and zeros.
-    pub bits: u32,
-}
-
-/// What a trial cost.
-#[derive(Clone, Copy, Debug, PartialEq, Eq)]
-pub struct TrialCost {
-    /// The number of the tile.
-    pub tile: u32,
-
-    /// The place of the trial's beginning in the script.
-    pub item: usize,
-
-    /// How much the tile grew from the beginning to the end of the trial, in eighths of a bit.
-    pub eighths: u32,
-
-    /// Whether the trial was kept.
-    pub kept: bool,
 }

@@ -14,8 +14,11 @@ ghost use Rattle.av1_model.specs.Cdf.{IsCdf};
 use av1_bits::{BitWriter, ULEB128Writer};
 use av1_cdf::{CDFContext, CDFContextLog, CDFOffset, Tables};
 use av1_ec::{Writer, WriterEncoder, law_of_symbol_lengths};
-use av1_geometry::{BlockSize, OutOfMemory};
-use av1_unit::{Item, Report, TileScript, TileStep, Unit, UnitError, Via, unit_bytes};
+use av1_geometry::{BlockSize, ChromaSampling, OutOfMemory};
+use av1_unit::{
+    FrameInvariants, FrameState, Item, Report, Sequence, TileScript, TileStep, Unit, UnitError,
+    Via, unit_bytes,
+};
 use std::alloc::Global;
 
 /// Header bits, filled to whole bytes.
@@ -72,20 +75,27 @@ pub fn try_symbol<W: Writer>(
     Ok(())
 }
 
-/// A frame of 8x8 samples with one block, which is skipped.
+/// A still picture of 8x8 samples without chroma, with one block, which is skipped.
 pub fn one_block(alloc: Global) -> Result<(Vec<u8>, Report), UnitError> {
     let size = BlockSize::BLOCK_8X8;
     let items = vec![in alloc;
         Item::Step(TileStep::Block { x: 0, y: 0, size }),
         Item::Step(TileStep::Skip { answer: true }),
     ];
+    let script = TileScript {
+        items: items.map_err(|_| OutOfMemory)?,
+    };
+    let scripts = vec![in alloc; script];
+    let mut sequence = Sequence::default();
+    sequence.chroma_sampling = ChromaSampling::Cs400;
     let unit = Unit {
         tables: Tables::uniform(alloc)?,
-        width: 8,
-        height: 8,
-        script: TileScript {
-            items: items.map_err(|_| OutOfMemory)?,
-        },
+        fi: FrameInvariants::new(sequence, 8, 8),
+        fs: FrameState::default(),
+        refs: [None; 8],
+        metadata: Vec::new(alloc),
+        delimiter: true,
+        scripts: scripts.map_err(|_| OutOfMemory)?,
     };
     unit_bytes(alloc, &unit, Via::Direct)
 }

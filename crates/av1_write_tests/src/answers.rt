@@ -113,7 +113,15 @@ fn a_fault_of_err_changes_no_status(rt: HostRuntime) -> Result<(), Fail> {
 #[test]
 fn other_words_are_faulty_usage(rt: HostRuntime) -> Result<(), Fail> {
     let alloc = rt.alloc();
-    for text in ["", "make", "make 07", "write write", "Write", "--help"] {
+    for text in [
+        "",
+        "make",
+        "make 07",
+        "write write",
+        "raw write",
+        "Write",
+        "--help",
+    ] {
         let mut source = source(alloc, EMPTY)?;
         let mut out = sink(alloc)?;
         let mut err = sink(alloc)?;
@@ -121,7 +129,7 @@ fn other_words_are_faulty_usage(rt: HostRuntime) -> Result<(), Fail> {
         assert_eq!(rt; status.number(), 1, "{text}");
         assert_eq!(rt;
             err.bytes(),
-            b"usage: av1_write write\n".as_slice(),
+            b"usage: av1_write write | raw\n".as_slice(),
             "{text}"
         );
     }
@@ -129,6 +137,40 @@ fn other_words_are_faulty_usage(rt: HostRuntime) -> Result<(), Fail> {
     let mut err = sink(alloc)?;
     let status = run(alloc, &[], &mut source(alloc, EMPTY)?, &mut out, &mut err);
     assert_eq!(rt; status.number(), 1);
+    Ok(())
+}
+
+// The bytes go to `out` as they are, and the report's line to `err`.
+#[test]
+fn raw_sends_bytes_and_then_the_report(rt: HostRuntime) -> Result<(), Fail> {
+    let alloc = rt.alloc();
+    let mut source = source(alloc, EMPTY)?;
+    let mut out = sink(alloc)?;
+    let mut err = sink(alloc)?;
+    let words = words(alloc, "raw")?;
+    let status = run(alloc, &words, &mut source, &mut out, &mut err);
+    assert_eq!(rt; status.number(), 0);
+    let want = [
+        0x12, 0x00, 0x0a, 0x05, 0x18, 0x08, 0xbf, 0x01, 0x10, 0x32, 0x06, 0x16, 0x40, 0x00, 0x00,
+        0x00, 0x80,
+    ];
+    assert_eq!(rt; out.bytes(), want.as_slice());
+    assert_eq!(rt; err.bytes(), b"tile 0 1 1\n".as_slice());
+    Ok(())
+}
+
+// Nothing of the report is sent where the bytes could not be.
+#[test]
+fn raw_sends_no_report_after_a_fault(rt: HostRuntime) -> Result<(), Fail> {
+    let alloc = rt.alloc();
+    let mut source = source(alloc, EMPTY)?;
+    let mut out = MemSink::new(alloc, 4096, true, vec![in alloc; 2]?)?;
+    let mut err = sink(alloc)?;
+    let words = words(alloc, "raw")?;
+    let status = run(alloc, &words, &mut source, &mut out, &mut err);
+    assert_eq!(rt; status.number(), 9);
+    assert_eq!(rt; out.bytes(), [0x12].as_slice());
+    assert_eq!(rt; err.bytes(), b"sink fault\n".as_slice());
     Ok(())
 }
 

@@ -1,0 +1,4 @@
+pub mod Left
+pub mod Lists
+pub mod Rows
+pub mod Texts

@@ -1,0 +1,6 @@
+use Rattle.av1_input.specs.Frame.{mode_rows}
+use Rattle.av1_input.proofs.Rows.{here, poured, so_far, ◌▸◌}
+use Rattle.av1_input.proofs.frame.with_mode.Goals as goal
+
+pub returns : goal.returns
+returns c = poured (here so_far mode_rows c.args.fi c.args.members.now ▸ c.optional.ensures ▸ c.optional-2.ensures ▸ c.optional-3.ensures ▸ c.optional-4.ensures ▸ c.optional-5.ensures ▸ c.optional-6.ensures ▸ c.optional-7.ensures ▸ c.optional-8.ensures ▸ c.optional-9.ensures)

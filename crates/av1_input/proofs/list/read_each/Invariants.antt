@@ -1,0 +1,5 @@
+use Rattle.av1_input.proofs.Lists.{Reading}
+use Rattle.av1_input.proofs.list.read_each.Given as goal
+
+abbrev pub invariant-loop-i : goal.invariant-loop-i
+invariant-loop-i g l = Reading g.T.FromJson.kind.fit l.fn.items.items l.items.items l.list.items l.i

@@ -1,0 +1,5 @@
+use Rattle.std.proofs.Common.{refl}
+use Rattle.av1_input.proofs.reference.RefStateFromJson.none.Goals as goal
+
+pub returns : goal.returns
+returns c = refl

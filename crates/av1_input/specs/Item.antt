@@ -1,0 +1,143 @@
+-- What an item of a tile's script is: its kind, which is said by `op`, and then the members of that kind.
+use Rattle.std.specs.Prelude.{ℕ, List, [], ◌∷◌, Bool, false, if◌then◌else◌, codes}
+use Rattle.std.specs.Str.{bytes_eq}
+use Rattle.serde_json.specs.Data.{Members as Left}
+use Rattle.av1_geometry.specs.BlockSize.{size_of}
+use Rattle.av1_geometry.specs.declared.block_size.BlockSize.{BlockSize}
+use Rattle.av1_geometry.specs.declared.block_size.BlockSize.TheVariants.{BLOCK_4X4}
+use Rattle.av1_geometry.specs.declared.partition_type.PartitionType.{PartitionType}
+use Rattle.av1_geometry.specs.declared.partition_type.PartitionType.TheVariants.{PARTITION_NONE}
+use Rattle.av1_geometry.specs.PartitionType.{partition_of}
+use Rattle.av1_geometry.specs.declared.prediction_mode.PredictionMode.{PredictionMode}
+use Rattle.av1_geometry.specs.declared.prediction_mode.PredictionMode.TheVariants.{DC_PRED}
+use Rattle.av1_geometry.specs.PredictionMode.{prediction_mode_of}
+use Rattle.av1_tile.specs.declared.unit.Item.{Item}
+use Rattle.av1_tile.specs.declared.unit.Item.TheVariants.{Step, Begin, Keep, Abandon}
+use Rattle.av1_tile.specs.declared.unit.TileStep.TheVariants.{RowStart, Block, Partition, Skip, IntraModeKf, UvMode, IntraMode, Cdef, FilterIntra, Palette}
+use Rattle.av1_input.specs.Fitted.{Fitted, Unfit, name_step}
+use Rattle.av1_input.specs.Kinds.{Kind, choice, list, text, truth, whole}
+use Rattle.av1_input.specs.Rows.{Row, closed, fit_then, required, then_of}
+
+-- the members of a question, and its answer
+pub record Asked (A : Type 0) : Type 0 where
+  pub x : ℕ
+  pub y : ℕ
+  pub size : BlockSize
+  pub a : A
+
+-- nothing is said yet, and this stands for the answer
+abbrev pub nothing : {A : Type 0} → A → Asked A
+nothing a = record { x = 0; y = 0; size = BLOCK_4X4; a = a }
+
+abbrev pub block_size : Kind BlockSize
+block_size = choice size_of BLOCK_4X4
+
+-- ---- the kinds
+
+abbrev pub block_rows : List (Row (Asked (Unit {0})))
+block_rows =
+    required (codes "x") (whole 64) (λ s x. record s { x = x })
+    ∷ required (codes "y") (whole 64) (λ s x. record s { y = x })
+    ∷ required (codes "size") block_size (λ s x. record s { size = x })
+    ∷ []
+
+abbrev pub block : Asked (Unit {0}) → Item
+block s = Step (Block s.x s.y s.size)
+
+abbrev pub partition : Kind PartitionType
+partition = choice partition_of PARTITION_NONE
+
+abbrev pub partition_rows : List (Row (Asked PartitionType))
+partition_rows =
+    required (codes "x") (whole 64) (λ s x. record s { x = x })
+    ∷ required (codes "y") (whole 64) (λ s x. record s { y = x })
+    ∷ required (codes "size") block_size (λ s x. record s { size = x })
+    ∷ required (codes "a") partition (λ s x. record s { a = x })
+    ∷ []
+
+abbrev pub parted : Asked PartitionType → Item
+parted s = Step (Partition s.x s.y s.size s.a)
+
+abbrev pub flag_rows : List (Row (Asked Bool))
+flag_rows = required (codes "a") truth (λ s x. record s { a = x }) ∷ []
+
+-- an answer in a byte, and one that is a mode
+abbrev pub byte_rows : List (Row (Asked ℕ))
+byte_rows = required (codes "a") (whole 8) (λ s x. record s { a = x }) ∷ []
+
+abbrev pub mode : Kind PredictionMode
+mode = choice prediction_mode_of DC_PRED
+
+abbrev pub prediction_rows : List (Row (Asked PredictionMode))
+prediction_rows = required (codes "a") mode (λ s x. record s { a = x }) ∷ []
+
+abbrev pub skip : Asked Bool → Item
+skip s = Step (Skip s.a)
+
+abbrev pub intra_mode_kf : Asked PredictionMode → Item
+intra_mode_kf s = Step (IntraModeKf s.a)
+
+abbrev pub intra_mode : Asked PredictionMode → Item
+intra_mode s = Step (IntraMode s.a)
+
+abbrev pub uv_mode : Asked PredictionMode → Item
+uv_mode s = Step (UvMode s.a)
+
+abbrev pub filter_intra : Asked Bool → Item
+filter_intra s = Step (FilterIntra s.a)
+
+abbrev pub palette : Asked Bool → Item
+palette s = Step (Palette s.a)
+
+abbrev pub cdef : Asked ℕ → Item
+cdef s = Step (Cdef s.a)
+
+abbrev pub begin_rows : List (Row (Asked (Unit {0})))
+begin_rows =
+    required (codes "x") (whole 64) (λ s x. record s { x = x })
+    ∷ required (codes "y") (whole 64) (λ s x. record s { y = x })
+    ∷ []
+
+abbrev pub begin : Asked (Unit {0}) → Item
+begin s = Begin record { 0 = record { x = s.x; y = s.y } }
+
+-- what the members beside `op` come to
+abbrev pub made_of : {A : Type 0} → List (Row (Asked A)) → A → (Asked A → Item) → Left → Fitted Item
+made_of rows a make ms = then_of rows (closed make) (nothing a) ms
+
+-- nothing is said beside `op`
+abbrev pub end_of : Item → Left → Fitted Item
+end_of end ms = made_of {A = Unit {0}} [] tt (λ s. end) ms
+
+-- each kind by its name
+abbrev pub item_kinds : List (List ℕ × (Left → Fitted Item))
+item_kinds =
+    (codes "RowStart", end_of (Step RowStart))
+    ∷ (codes "Block", made_of block_rows tt block)
+    ∷ (codes "Partition", made_of partition_rows PARTITION_NONE parted)
+    ∷ (codes "Skip", made_of flag_rows false skip)
+    ∷ (codes "IntraModeKf", made_of prediction_rows DC_PRED intra_mode_kf)
+    ∷ (codes "IntraMode", made_of prediction_rows DC_PRED intra_mode)
+    ∷ (codes "UvMode", made_of prediction_rows DC_PRED uv_mode)
+    ∷ (codes "FilterIntra", made_of flag_rows false filter_intra)
+    ∷ (codes "Palette", made_of flag_rows false palette)
+    ∷ (codes "Cdef", made_of byte_rows 0 cdef)
+    ∷ (codes "Begin", made_of begin_rows tt begin)
+    ∷ (codes "Keep", end_of Keep)
+    ∷ (codes "Abandon", end_of Abandon)
+    ∷ []
+
+-- the members of the first kind of this name; where there is none, `op` is unfit
+abbrev pub of_op : List (List ℕ × (Left → Fitted Item)) → List ℕ → Left → Fitted Item
+of_op [] op ms = Unfit (name_step (codes "op"))
+of_op (kind ∷ kinds) op ms = if bytes_eq op kind.0 then kind.1 ms else of_op kinds op ms
+
+-- `op` comes first, and is a text
+abbrev pub op_rows : List (Row (List ℕ))
+op_rows = required (codes "op") text (λ s x. x) ∷ []
+
+abbrev pub item : Kind Item
+item = record { none = Keep; fit = fit_then op_rows (of_op item_kinds) [] }
+
+abbrev pub script : Kind (List Item)
+script = list item

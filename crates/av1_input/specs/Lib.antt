@@ -1,0 +1,17 @@
+pub mod FilmGrain
+pub mod Fitted
+pub mod Frame
+pub mod FrameState
+pub mod Item
+pub mod Kinds
+pub mod Metadata
+pub mod Refs
+pub mod Rows
+pub mod Said
+pub mod SaidView
+pub mod Sequence
+pub mod Tables
+pub mod Taking
+pub mod Unit
+pub mod WholeFrame
+pub mod Why

@@ -1,0 +1,158 @@
+// An item of a tile's script from a JSON value.
+ghost use Rattle.std.specs.Prelude.{[], ◌∷◌, false};
+ghost use Rattle.av1_input.specs.Item.{item, script, item_kinds, of_op, made_of, end_of, block, block_rows, parted, partition_rows, flag_rows, byte_rows, prediction_rows, skip, intra_mode_kf, intra_mode, uv_mode, filter_intra, palette, cdef, begin, begin_rows};
+ghost use Rattle.av1_geometry.specs.declared.prediction_mode.PredictionMode.TheVariants.{DC_PRED};
+ghost use Rattle.av1_geometry.specs.declared.partition_type.PartitionType.TheVariants.{PARTITION_NONE};
+ghost use Rattle.av1_input.specs.Taking.{Finishes, left_of};
+
+use crate::error::ShapeError;
+use crate::from_json::FromJson;
+use crate::list::read_list;
+use crate::members::Members;
+use av1_geometry::{BlockOffset, TileBlockOffset};
+use av1_tile::{Item, TileScript, TileStep};
+use serde_json::Value;
+use std::alloc::Global;
+
+impl FromJson for Item {
+    ghost kind = { item };
+
+    fn none(_alloc: Global) -> Self {
+        Item::Keep
+    }
+
+    fn from_json(alloc: Global, value: Value) -> Result<Self, ShapeError> {
+        let mut members = Members::of(alloc, value);
+        let op = members.required_text("op");
+        item_of(op.as_str(), members)
+    }
+}
+
+impl FromJson for TileScript {
+    ghost kind = { script };
+
+    fn none(alloc: Global) -> Self {
+        TileScript {
+            items: Vec::new(alloc),
+        }
+    }
+
+    fn from_json(alloc: Global, value: Value) -> Result<Self, ShapeError> {
+        match read_list(alloc, value) {
+            Ok(items) => Ok(TileScript { items }),
+            Err(error) => Err(error),
+        }
+    }
+}
+
+// The item of the kind of this name, by its other members.
+fn item_of(op: &str, members: Members) -> Result<Item, ShapeError>
+    ensures { Finishes (of_op item_kinds op.now (left_of members)) members result }
+{
+    match op {
+        "RowStart" => end(members, Item::Step(TileStep::RowStart)),
+        "Block" => block(members),
+        "Partition" => partition(members),
+        "Skip" => skip(members),
+        "IntraModeKf" => intra_mode_kf(members),
+        "IntraMode" => intra_mode(members),
+        "UvMode" => uv_mode(members),
+        "FilterIntra" => filter_intra(members),
+        "Palette" => palette(members),
+        "Cdef" => cdef(members),
+        "Begin" => begin(members),
+        "Keep" => end(members, Item::Keep),
+        "Abandon" => end(members, Item::Abandon),
+        _ => members.refuse("op"),
+    }
+}
+
+fn block(mut members: Members) -> Result<Item, ShapeError>
+    ensures { Finishes (made_of block_rows tt block (left_of members)) members result }
+{
+    let step = TileStep::Block {
+        x: members.required("x"),
+        y: members.required("y"),
+        size: members.required("size"),
+    };
+    members.finish(Item::Step(step))
+}
+
+fn partition(mut members: Members) -> Result<Item, ShapeError>
+    ensures { Finishes (made_of partition_rows PARTITION_NONE parted (left_of members)) members result }
+{
+    let step = TileStep::Partition {
+        x: members.required("x"),
+        y: members.required("y"),
+        size: members.required("size"),
+        answer: members.required("a"),
+    };
+    members.finish(Item::Step(step))
+}
+
+fn skip(mut members: Members) -> Result<Item, ShapeError>
+    ensures { Finishes (made_of flag_rows false skip (left_of members)) members result }
+{
+    let step = TileStep::Skip {
+        answer: members.required("a"),
+    };
+    members.finish(Item::Step(step))
+}
+
+fn intra_mode_kf(mut members: Members) -> Result<Item, ShapeError>
+    ensures { Finishes (made_of prediction_rows DC_PRED intra_mode_kf (left_of members)) members result }
+{
+    let answer = members.required("a");
+    members.finish(Item::Step(TileStep::IntraModeKf { answer }))
+}
+
+fn intra_mode(mut members: Members) -> Result<Item, ShapeError>
+    ensures { Finishes (made_of prediction_rows DC_PRED intra_mode (left_of members)) members result }
+{
+    let answer = members.required("a");
+    members.finish(Item::Step(TileStep::IntraMode { answer }))
+}
+
+fn uv_mode(mut members: Members) -> Result<Item, ShapeError>
+    ensures { Finishes (made_of prediction_rows DC_PRED uv_mode (left_of members)) members result }
+{
+    let answer = members.required("a");
+    members.finish(Item::Step(TileStep::UvMode { answer }))
+}
+
+fn filter_intra(mut members: Members) -> Result<Item, ShapeError>
+    ensures { Finishes (made_of flag_rows false filter_intra (left_of members)) members result }
+{
+    let answer = members.required("a");
+    members.finish(Item::Step(TileStep::FilterIntra { answer }))
+}
+
+fn palette(mut members: Members) -> Result<Item, ShapeError>
+    ensures { Finishes (made_of flag_rows false palette (left_of members)) members result }
+{
+    let answer = members.required("a");
+    members.finish(Item::Step(TileStep::Palette { answer }))
+}
+
+fn cdef(mut members: Members) -> Result<Item, ShapeError>
+    ensures { Finishes (made_of byte_rows 0 cdef (left_of members)) members result }
+{
+    let answer = members.required("a");
+    members.finish(Item::Step(TileStep::Cdef { answer }))
+}
+
+fn begin(mut members: Members) -> Result<Item, ShapeError>
+    ensures { Finishes (made_of begin_rows tt begin (left_of members)) members result }
+{
+    let place = BlockOffset {
+        x: members.required("x"),
+        y: members.required("y"),
+    };
+    members.finish(Item::Begin(TileBlockOffset(place)))
+}
+
+fn end(members: Members, end: Item) -> Result<Item, ShapeError>
+    ensures { Finishes (end_of end (left_of members)) members result }
+{
+    members.finish(end)
+}

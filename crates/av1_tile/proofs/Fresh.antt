@@ -1,0 +1,48 @@
+-- Before the first item.
+use Rattle.std.proofs.Common.{◌≡◌, ℕ, ◌*◌, ◌<◌, List, [], length, get_or, replicate, refl, sym, ◌∙◌, ap, subst, arith}
+use Rattle.std.proofs.lemmas.List.{length-replicate, get_or-replicate}
+use Rattle.av1_blocks.specs.declared.block.Block.{Block}
+use Rattle.av1_blocks.specs.declared.block.TheConstants.Block.{DEFAULT}
+use Rattle.av1_cdf.specs.Context.{AreCdfs}
+use Rattle.av1_ec.specs.declared.known.Known.{Ghosts}
+use Rattle.av1_frame.specs.declared.frame.FrameInvariants.{FrameInvariants}
+use Rattle.av1_geometry.specs.declared.block_offset.BlockOffset.{BlockOffset}
+use Rattle.av1_model.specs.Position.{Position}
+use Rattle.av1_model.proofs.Tokens.{whole_valid}
+use Rattle.av1_tile.specs.declared.report.TrialCost.{TrialCost}
+use Rattle.av1_tile.specs.declared.tile.TileState.{TileState}
+use Rattle.av1_tile.specs.declared.trial.TrialMark.{TrialMark}
+use Rattle.av1_tile.specs.Coder.{IsNew, StandsAt}
+use Rattle.av1_tile.specs.Given.{Given, IsGiven, tile_count, tile_cols, tile_rows}
+use Rattle.av1_tile.specs.Kept.{IsFine, IsKept}
+use Rattle.av1_tile.specs.Sound.{IsSound}
+use Rattle.av1_tile.specs.State.{tile_of}
+use Rattle.av1_tile.specs.Tile.{fresh}
+use Rattle.av1_tile.specs.TileBytes.{started, begin, numbers_of}
+use Rattle.av1_tile.proofs.Coded.{coded_none}
+
+planes_fresh : (p : ℕ) → p < 3 → length {A = ℕ} (get_or (replicate 3 (replicate 1024 0)) p []) ≡ 1024
+planes_fresh p h = ap (λ (l : List ℕ). length l) (get_or-replicate 3 p (replicate 1024 0) [] h) ∙ length-replicate {A = ℕ} 1024 0
+
+pub fresh_kept : (g : Given) (k : ℕ) (numbers : List ℕ) → IsGiven g → k < tile_count g.fi → IsKept (fresh g k numbers)
+fresh_kept g k numbers given number =
+    let n = tile_cols g.fi k * tile_rows g.fi k in
+    record {
+      given = given;
+      number = number;
+      sides = record { cols = refl; rows = refl; corner = (refl, refl); all = length-replicate n DEFAULT; frame = (refl, refl) };
+      edges = record { above_partition = length-replicate {A = ℕ} 512 0; above_tx = length-replicate {A = ℕ} 1024 0; above_planes = length-replicate {A = List ℕ} 3 (replicate 1024 0); above_coeff = planes_fresh };
+      current = λ b e. cc;
+      fine = λ i h. subst (IsFine g.fi) (sym (get_or-replicate n i DEFAULT DEFAULT (subst (λ m. i < m) (length-replicate n DEFAULT) h))) (record { mode = λ intra. omega arith; segment = omega arith });
+    }
+
+pub fresh_sound : (g : Given) (k : ℕ) → IsGiven g → k < tile_count g.fi → AreCdfs (numbers_of g) → IsSound (begin g k)
+fresh_sound g k given number v = record { interval = whole_valid; cdfs = v; kept = fresh_kept g k (numbers_of g) given number }
+
+module _ {W : Type 0} (writer : Ghosts W) (start : Position) where
+  -- a fresh tile and a writer that stored nothing stand at the beginning of every script
+  pub fresh_stands : (g : Given) (k : ℕ) (tile : TileState) (w : W) (marks : List TrialMark) (places : List ℕ) (costs : List TrialCost)
+      → IsSound (begin g k) → tile_of tile ≡ (begin g k).context → IsNew start → writer.position w ≡ start → marks ≡ [] → places ≡ [] → costs ≡ []
+      → StandsAt writer start tile w marks places costs (started (begin g k))
+  fresh_stands g k tile w marks places costs sound t new p m b c =
+      record { place = record { x = 0; y = 0 }; tile_is = t; coded = coded_none start (writer.position w) new p; marks_are = m; begun_are = b; costs_are = c; sound = sound; few = omega arith }

@@ -1,0 +1,345 @@
+-- All kinds of step. What each brings is one line for each of the first lemmas; the others hold of every kind.
+use Rattle.std.proofs.Common.{◌≤◌, ◌&&◌, nat_lt, nat_le, ◌==◌, option_map, ◌≡◌, ℕ, ◌+◌, ◌-◌, ◌*◌, ◌/◌, ◌%◌, min, ◌<◌, ◌^◌, Bool, true, false, IsTrue, List, [], ◌∷◌, ◌++◌, Option, Some, None, is_some, is_none, length, refl, sym, ◌∙◌, ap, subst, arith, if◌then◌else◌}
+use Rattle.std.proofs.lemmas.Bool.Decides.{nat_tests}
+use Rattle.std.specs.Option.{ForSome, option_map_or}
+use Rattle.av1_blocks.specs.declared.block.Block.{Block as GridBlock}
+use Rattle.av1_cdf.specs.Context.{AreCdfs}
+use Rattle.av1_cdf.specs.Distribution.{coded_by, learnt, HasSymbols}
+use Rattle.av1_cdf.proofs.Distributions.{keeps_cdfs}
+use Rattle.av1_frame.specs.declared.frame.FrameInvariants.{FrameInvariants}
+use Rattle.av1_geometry.specs.declared.block_offset.BlockOffset.{BlockOffset}
+use Rattle.av1_geometry.specs.declared.block_size.BlockSize.{BlockSize}
+use Rattle.av1_geometry.specs.declared.error.Rule.{Rule}
+use Rattle.av1_geometry.specs.declared.partition_type.PartitionType.{PartitionType}
+use Rattle.av1_geometry.specs.declared.prediction_mode.PredictionMode.{PredictionMode}
+use Rattle.av1_geometry.specs.BlockSize.{width_log2, height_log2, width_mi, height_mi}
+use Rattle.av1_geometry.specs.BlockTables.{subsize_of}
+use Rattle.av1_geometry.specs.Rules.{Check, first_broken}
+use Rattle.av1_model.specs.Comes.{Standing, standing, stored_along, Writes, Begins}
+use Rattle.av1_model.specs.Element.{Reads, nothing}
+use Rattle.av1_model.specs.Paths.{context_along}
+use Rattle.av1_model.specs.Position.{Position, advance_all}
+use Rattle.av1_model.specs.Reading.{Fits}
+use Rattle.av1_model.specs.Syntax.{Leads}
+use Rattle.av1_model.proofs.ComesLaws.{stored_is, begins_front}
+use Rattle.av1_model.proofs.ElementLaws.{known_reads, fits_asked, nothing_reads, reads_as}
+use Rattle.av1_syntax.specs.Partition.{IsParted, has_cols, has_rows, is_allowed, partition_element}
+use Rattle.av1_syntax.proofs.Elements.{partition_reads, skip_reads}
+use Rattle.av1_tile.specs.declared.error.StepFault.TheVariants.{TooLong, Broken}
+use Rattle.av1_tile.specs.declared.unit.TileStep.{TileStep}
+use Rattle.av1_tile.specs.declared.unit.TileStep.TheVariants.{RowStart, Block, Partition, Skip, IntraModeKf, UvMode, IntraMode, Cdef, FilterIntra, Palette}
+use Rattle.av1_tile.specs.Effect.{Effect, Over, Parted, Unfilled}
+use Rattle.av1_tile.specs.FilterSteps.{cdef_kind, filter_intra_kind, palette_kind}
+use Rattle.av1_tile.specs.Given.{tile_cols, tile_rows}
+use Rattle.av1_tile.specs.IntraSteps.{intra_mode_kf_kind, uv_mode_kind, intra_mode_kind}
+use Rattle.av1_tile.specs.Kept.{IsBlock, IsFine, IsKept, AllFit, AllAt}
+use Rattle.av1_tile.specs.Kind.{Kind, answers, holds, rules_of, of_none, of_current, IsKind}
+use Rattle.av1_tile.specs.Script.{tile_after, tokens_of}
+use Rattle.av1_tile.specs.Step.{is_inside, is_aligned, is_coded_size, is_parted_size, is_split_on, new_block, parted, row_start_kind, block_kind, partition_kind, skip_kind, step_fault, most_bits, Question, OfRowStart, OfBlock, OfPartition, OfSkip, OfIntraModeKf, OfUvMode, OfIntraMode, Answer, question_of, answer_of, kind_of, rules, syntax_of, symbols_of, effects_of, entered, OfCdef, OfFilterIntra, OfPalette}
+use Rattle.av1_tile.specs.Tile.{Tile, CurrentBlock, place_of_block, size_of_block, with_numbers, sampling}
+use Rattle.av1_tile.proofs.OfCurrent.{of_current_named, of_current_rules, of_current_places}
+use Rattle.av1_tile.proofs.Effects.{all_kept, all_same, numbers_kept}
+use Rattle.av1_tile.proofs.IntraSteps.{intra_mode_kf_is_kind, uv_mode_is_kind, intra_mode_is_kind}
+use Rattle.av1_tile.proofs.FilterSteps.{cdef_is_kind, filter_intra_is_kind, palette_is_kind}
+use Rattle.av1_tile.proofs.KindLaws.{kind_reads, none_is, asking_holds, answering_holds, leads_step, step_apart, steps_ask}
+use Rattle.av1_tile.proofs.Places.{all_hold, both, is_at_most, is_cut}
+
+-- a step's rules hold
+abbrev pub IsAllowed : TileStep → Tile → Type 0
+IsAllowed step t = first_broken (rules step t) ≡ None
+
+pub is_below : (n m : ℕ) → nat_lt n m ≡ true → n < m
+is_below n m h = grind (arith, nat_tests)
+
+pub is_same : (n m : ℕ) → (n == m) ≡ true → n ≡ m
+is_same n m h = grind (arith, nat_tests)
+
+-- a row of superblocks begins
+row_start_is_kind : (t : Tile) → IsKind t row_start_kind
+row_start_is_kind t = record {
+  reads = kind_reads row_start_kind (λ a. a ≡ tt) 0 (omega arith) (λ a h g. refl) (λ h. known_reads HasSymbols tt);
+  fit = λ a h. (tt, tt);
+  at_place = λ a. (tt, tt);
+}
+
+-- a block that keeps its rules can be entered
+pub block_fits : (bo : BlockOffset) (size : BlockSize) (t : Tile) → holds (rules_of (block_kind bo size t) tt) ≡ true → IsBlock t.bc.blocks.cols t.bc.blocks.rows bo size
+block_fits bo size t h =
+    let all = all_hold (rules_of (block_kind bo size t) tt) (none_is _ h) in
+    let inside = both _ _ all.0 in
+    let coded = both _ _ all.1.0 in
+    let sides = both _ _ (both _ _ coded.0).0 in
+    let aligned = both _ _ coded.1 in
+    record { column = is_below _ _ inside.0; row = is_below _ _ inside.1; width = is_at_most _ _ sides.0; height = is_at_most _ _ sides.1; aligned = (is_same _ _ aligned.0, is_same _ _ aligned.1) }
+
+-- what a block gets is fine
+new_fine : (fi : FrameInvariants) (size : BlockSize) → IsFine fi (new_block size)
+new_fine fi size = record { mode = λ h. omega arith; segment = omega arith }
+
+block_is_kind : (bo : BlockOffset) (size : BlockSize) (t : Tile) → IsKind t (block_kind bo size t)
+block_is_kind bo size t = record {
+  reads = kind_reads (block_kind bo size t) (λ a. a ≡ tt) 0 (omega arith) (λ a h g. refl) (λ h. known_reads HasSymbols tt);
+  fit = λ a h. let b = block_fits bo size t h in ((b, λ x fine. new_fine t.given.fi size), (b, tt));
+  at_place = λ a. (refl, (tt, tt));
+}
+
+even_columns : (span side m : ℕ) → min (16 * span) (2 * side - m * (16 * span)) % 2 ≡ 0
+even_columns span side m = omega arith
+
+-- a tile has whole pairs of columns and rows, and at most 1024 columns and 16384 rows
+pub record IsPaired (t : Tile) : Type 0 where
+  pub cols : t.bc.blocks.cols % 2 ≡ 0
+  pub rows : t.bc.blocks.rows % 2 ≡ 0
+  pub few : t.bc.blocks.cols ≤ 1024
+  pub low : t.bc.blocks.rows ≤ 16384
+
+pub is_paired : (t : Tile) → IsKept t → IsPaired t
+is_paired t k =
+    let cut = is_cut t.given.fi t.given.fs t.given.refs k.given.frame in
+    record {
+      cols = ap (λ n. n % 2) k.sides.cols ∙ even_columns t.given.fi.tile_width_sb _ _;
+      rows = ap (λ n. n % 2) k.sides.rows ∙ even_columns t.given.fi.tile_height_sb _ _;
+      few = omega (arith, k.sides.cols, cut.tile_width.1);
+      low = omega (arith, k.sides.rows, cut.tile_height.1);
+    }
+
+-- a square that keeps its rules can be parted
+pub can_part : (bo : BlockOffset) (size : BlockSize) (t : Tile) → IsKept t → holds (partition_kind bo size t).asking ≡ true → IsParted t.bc.blocks bo size
+can_part bo size t k h =
+    let all = all_hold (partition_kind bo size t).asking (none_is _ h) in
+    let inside = both _ _ all.0 in
+    let two = both _ _ all.1.0 in
+    let sides = both _ _ two.0 in
+    let square = both _ _ sides.0 in
+    let aligned = both _ _ two.1 in
+    let same : width_log2 size ≡ height_log2 size = is_same _ _ square.0 in
+    let paired = is_paired t k in
+    record {
+      column = is_below _ _ inside.0;
+      row = is_below _ _ inside.1;
+      few = paired.few;
+      pairs = (paired.cols, paired.rows);
+      square = same;
+      least = is_at_most _ _ square.1;
+      most = is_at_most _ _ sides.1;
+      aligned = (is_same _ _ aligned.0, subst (λ n. bo.y % 2 ^ (n - 2) ≡ 0) (sym same) (is_same _ _ aligned.1));
+    }
+
+pub parted_block : (t : Tile) (bo : BlockOffset) (size : BlockSize) → IsParted t.bc.blocks bo size → IsBlock t.bc.blocks.cols t.bc.blocks.rows bo size
+parted_block t bo size p =
+    record { column = p.column; row = p.row; width = p.most; height = omega (arith, p.square, p.most); aligned = (p.aligned.0, subst (λ n. bo.y % 2 ^ (n - 2) ≡ 0) p.square p.aligned.1) }
+
+parted_fit : (fi : FrameInvariants) (cols rows : ℕ) (bo : BlockOffset) (size : BlockSize) (on : Bool) (o : Option BlockSize) → IsBlock cols rows bo size → AllFit fi cols rows (if on then [] else option_map_or (λ subsize. Parted bo size subsize ∷ []) o [])
+parted_fit fi cols rows bo size true o b = tt
+parted_fit fi cols rows bo size false None b = tt
+parted_fit fi cols rows bo size false (Some subsize) b = (b, tt)
+
+parted_at : (bo : BlockOffset) (size : BlockSize) (on : Bool) (o : Option BlockSize) → AllAt (Some bo) (if on then [] else option_map_or (λ subsize. Parted bo size subsize ∷ []) o [])
+parted_at bo size true o = tt
+parted_at bo size false None = tt
+parted_at bo size false (Some subsize) = (refl, tt)
+
+partition_is_kind : (bo : BlockOffset) (size : BlockSize) (t : Tile) → AreCdfs t.numbers → IsKept t → IsKind t (partition_kind bo size t)
+partition_is_kind bo size t cdfs k = record {
+  reads = kind_reads (partition_kind bo size t) (λ p. IsTrue (is_allowed (has_cols t.bc.blocks bo size) (has_rows t.bc.blocks bo size) size p)) 1 (omega arith)
+      (λ p h g. (all_hold ((partition_kind bo size t).answering p) (none_is _ g)).0) (λ h. partition_reads t.numbers t.bc bo size cdfs (can_part bo size t k h));
+  fit = λ p h. parted_fit t.given.fi t.bc.blocks.cols t.bc.blocks.rows bo size (is_split_on size p) (subsize_of size p)
+      (parted_block t bo size (can_part bo size t k (asking_holds (partition_kind bo size t).asking ((partition_kind bo size t).answering p) h)));
+  at_place = λ p. parted_at bo size (is_split_on size p) (subsize_of size p);
+}
+
+-- where no block is the current one, nothing is read
+none_is_kind : {A : Type 0} (t : Tile) (step : A → TileStep) → IsKind t (of_none step)
+none_is_kind {A} t step = record {
+  reads = reads_as HasSymbols nothing (λ a. holds (rules_of (of_none step) a) ≡ true) (λ a. holds (rules_of (of_none step) a) ≡ true) 0 (2 ^ 20) (λ a h. h) (λ a h. h) (omega arith)
+      (nothing_reads HasSymbols (λ a. holds (rules_of (of_none step) a) ≡ true) (λ a h. let e : false ≡ true = h in cc));
+  fit = λ a h. tt;
+  at_place = λ a. tt;
+}
+
+current_is_kind : {A : Type 0} (t : Tile) (o : Option CurrentBlock) (step : A → TileStep) (f : CurrentBlock → Kind A) → ((b : CurrentBlock) → o ≡ Some b → IsKind t (f b)) → IsKind t (of_current o step f)
+current_is_kind t None step f h = none_is_kind t step
+current_is_kind t (Some b) step f h = h b refl
+
+skip_fit : (fi : FrameInvariants) (cols rows : ℕ) (b : CurrentBlock) (on : Bool) → IsBlock cols rows (place_of_block b) (size_of_block b) →
+    AllFit fi cols rows (Over (place_of_block b) (size_of_block b) (λ x. record x { skip = on }) ∷ (if on then Unfilled (place_of_block b) (size_of_block b) ∷ [] else []))
+skip_fit fi cols rows b true h = ((h, λ x fine. record { mode = fine.mode; segment = fine.segment }), (h, tt))
+skip_fit fi cols rows b false h = ((h, λ x fine. record { mode = fine.mode; segment = fine.segment }), tt)
+
+skip_at : (b : CurrentBlock) (on : Bool) → AllAt (Some (place_of_block b)) (Over (place_of_block b) (size_of_block b) (λ x. record x { skip = on }) ∷ (if on then Unfilled (place_of_block b) (size_of_block b) ∷ [] else []))
+skip_at b true = (refl, (refl, tt))
+skip_at b false = (refl, tt)
+
+skip_is_kind : (t : Tile) (b : CurrentBlock) → IsBlock t.bc.blocks.cols t.bc.blocks.rows (place_of_block b) (size_of_block b) → IsKind t (skip_kind t b)
+skip_is_kind t b h = record {
+  reads = kind_reads (skip_kind t b) (λ on. Unit {0}) 1 (omega arith) (λ on h g. tt) (λ h. skip_reads t.bc.blocks (place_of_block b));
+  fit = λ on g. skip_fit t.given.fi t.bc.blocks.cols t.bc.blocks.rows b on h;
+  at_place = λ on. skip_at b on;
+}
+
+-- what each kind brings
+pub is_kind : (q : Question) (t : Tile) → AreCdfs t.numbers → IsKept t → IsKind t (kind_of q t)
+is_kind OfRowStart t v k = row_start_is_kind t
+is_kind (OfBlock bo size) t v k = block_is_kind bo size t
+is_kind (OfPartition bo size) t v k = partition_is_kind bo size t v k
+is_kind OfSkip t v k = current_is_kind t t.current Skip (skip_kind t) (λ b e. skip_is_kind t b (k.current b e))
+is_kind OfIntraModeKf t v k = current_is_kind t t.current IntraModeKf (intra_mode_kf_kind t) (λ b e. intra_mode_kf_is_kind t b (k.current b e))
+is_kind OfUvMode t v k = current_is_kind t t.current UvMode (uv_mode_kind t) (λ b e. uv_mode_is_kind t b k (k.current b e))
+is_kind OfIntraMode t v k = current_is_kind t t.current IntraMode (intra_mode_kind t) (λ b e. intra_mode_is_kind t b (k.current b e))
+is_kind OfCdef t v k = current_is_kind t t.current Cdef (cdef_kind t) (λ b e. cdef_is_kind t b k (k.current b e))
+is_kind OfFilterIntra t v k = current_is_kind t t.current FilterIntra (filter_intra_kind t) (λ b e. filter_intra_is_kind t b (k.current b e))
+is_kind OfPalette t v k = current_is_kind t t.current Palette (palette_kind t) (λ b e. palette_is_kind t b (k.current b e))
+
+-- a step is the one with its answer
+step_named : (step : TileStep) (t : Tile) → (kind_of (question_of step) t).step (answer_of step) ≡ step
+step_named RowStart t = refl
+step_named (Block x y size) t = refl
+step_named (Partition x y size p) t = refl
+step_named (IntraModeKf m) t = of_current_named IntraModeKf (intra_mode_kf_kind t) t.current (λ b. refl) m
+step_named (UvMode m) t = of_current_named UvMode (uv_mode_kind t) t.current (λ b. refl) m
+step_named (IntraMode m) t = of_current_named IntraMode (intra_mode_kind t) t.current (λ b. refl) m
+step_named (Skip on) t = of_current_named Skip (skip_kind t) t.current (λ b. refl) on
+step_named (Cdef i) t = of_current_named Cdef (cdef_kind t) t.current (λ b. refl) i
+step_named (FilterIntra on) t = of_current_named FilterIntra (filter_intra_kind t) t.current (λ b. refl) on
+step_named (Palette on) t = of_current_named Palette (palette_kind t) t.current (λ b. refl) on
+
+-- what a step with an answer has
+IsAsked : (q : Question) (t : Tile) (a : Answer q) → TileStep → Type 0
+IsAsked q t a step = (question_of step ≡ q) × (rules step t ≡ rules_of (kind_of q t) a) × (symbols_of step t ≡ (answers (kind_of q t)).symbols a)
+
+-- a step with an answer has its question, rules and symbols
+asked : (q : Question) (t : Tile) (a : Answer q) → IsAsked q t a ((kind_of q t).step a)
+unfolding IsAsked
+asked OfRowStart t a = (refl, refl, refl)
+asked (OfBlock bo size) t a = (refl, refl, refl)
+asked (OfPartition bo size) t a = (refl, refl, refl)
+asked OfIntraModeKf t a = subst (IsAsked OfIntraModeKf t a) (sym (of_current_named IntraModeKf (intra_mode_kf_kind t) t.current (λ b. refl) a)) (refl, refl, refl)
+asked OfUvMode t a = subst (IsAsked OfUvMode t a) (sym (of_current_named UvMode (uv_mode_kind t) t.current (λ b. refl) a)) (refl, refl, refl)
+asked OfIntraMode t a = subst (IsAsked OfIntraMode t a) (sym (of_current_named IntraMode (intra_mode_kind t) t.current (λ b. refl) a)) (refl, refl, refl)
+asked OfSkip t a = subst (IsAsked OfSkip t a) (sym (of_current_named Skip (skip_kind t) t.current (λ b. refl) a)) (refl, refl, refl)
+asked OfCdef t a = subst (IsAsked OfCdef t a) (sym (of_current_named Cdef (cdef_kind t) t.current (λ b. refl) a)) (refl, refl, refl)
+asked OfFilterIntra t a = subst (IsAsked OfFilterIntra t a) (sym (of_current_named FilterIntra (filter_intra_kind t) t.current (λ b. refl) a)) (refl, refl, refl)
+asked OfPalette t a = subst (IsAsked OfPalette t a) (sym (of_current_named Palette (palette_kind t) t.current (λ b. refl) a)) (refl, refl, refl)
+
+is_asked : (q : Question) (t : Tile) (a : Answer q) → let step = (kind_of q t).step a in (question_of step ≡ q) × (rules step t ≡ rules_of (kind_of q t) a) × (symbols_of step t ≡ (answers (kind_of q t)).symbols a)
+unfolding IsAsked
+is_asked q t a = asked q t a
+
+-- the symbols of an allowed step lead to it
+pub leads : (step : TileStep) (t : Tile) → AreCdfs t.numbers → IsKept t → IsAllowed step t → Leads (syntax_of (question_of step) t) (symbols_of step t) step
+leads step t v k h =
+    let q = question_of step in
+    subst (λ (s : TileStep). Leads (syntax_of q t) (symbols_of step t) s) (step_named step t) (leads_step t (kind_of q t) (is_kind q t v k) (answer_of step) h)
+
+-- no other symbols lead to a step that answers the question
+pub one_path : (q : Question) (t : Tile) (ss : List ℕ) (step : TileStep) → AreCdfs t.numbers → IsKept t → Leads (syntax_of q t) ss step → (question_of step ≡ q) × IsAllowed step t × (ss ≡ symbols_of step t)
+one_path q t ss step v k h =
+    let x = step_apart t (kind_of q t) (is_kind q t v k) ss step h in
+    let n = is_asked q t x.0 in
+    subst (λ (s : TileStep). (question_of s ≡ q) × IsAllowed s t × (ss ≡ symbols_of s t)) x.1 (n.0, ap first_broken n.1 ∙ x.2, x.3 ∙ sym n.2)
+
+-- each symbol is one of a valid distribution, and the distributions stay valid
+pub fits_after : (step : TileStep) (t : Tile) → AreCdfs t.numbers → IsKept t → IsAllowed step t →
+    Fits coded_by (learnt t.learns) (syntax_of (question_of step) t) (symbols_of step t) t.numbers × AreCdfs (context_along coded_by (learnt t.learns) (syntax_of (question_of step) t) (symbols_of step t) t.numbers)
+fits_after step t v k h =
+    fits_asked HasSymbols coded_by (learnt t.learns) AreCdfs (keeps_cdfs t.learns) (syntax_of (question_of step) t) (symbols_of step t) step t.numbers v
+    (steps_ask t (kind_of (question_of step) t) (is_kind (question_of step) t v k)) (leads step t v k h)
+
+pub fits : (step : TileStep) (t : Tile) → AreCdfs t.numbers → IsKept t → IsAllowed step t → Fits coded_by (learnt t.learns) (syntax_of (question_of step) t) (symbols_of step t) t.numbers
+fits step t v k h = (fits_after step t v k h).0
+
+-- a step has few symbols
+pub few_symbols : (step : TileStep) (t : Tile) → AreCdfs t.numbers → IsKept t → IsAllowed step t → length (symbols_of step t) ≤ 2 ^ 20
+few_symbols step t v k h = (is_kind (question_of step) t v k).reads.few (answer_of step) (ap is_none h)
+
+-- what no step changes
+pub entered_same : (step : TileStep) (t : Tile) → ((entered step t).numbers ≡ t.numbers) × ((entered step t).number ≡ t.number) × ((entered step t).learns ≡ t.learns)
+entered_same step t = let s = all_same (effects_of step t) t in (s.numbers, s.number, s.learns)
+
+-- a step keeps the distributions valid
+pub cdfs_after : (t : Tile) (step : TileStep) → AreCdfs t.numbers → IsKept t → IsAllowed step t → AreCdfs (tile_after t step).numbers
+cdfs_after t step v k h =
+    let c = context_along coded_by (learnt t.learns) (syntax_of (question_of step) t) (symbols_of step t) t.numbers in
+    subst AreCdfs (sym (entered_same step (with_numbers c t)).0) (fits_after step t v k h).1
+
+-- the rules of a step do not speak of the numbers
+same_rules : (step : TileStep) (ns : List ℕ) (t : Tile) → rules step (with_numbers ns t) ≡ rules step t
+same_rules RowStart ns t = refl
+same_rules (Block x y size) ns t = refl
+same_rules (Partition x y size p) ns t = refl
+same_rules (IntraModeKf m) ns t = of_current_rules IntraModeKf (intra_mode_kf_kind (with_numbers ns t)) (intra_mode_kf_kind t) t.current m (λ b. refl)
+same_rules (UvMode m) ns t = of_current_rules UvMode (uv_mode_kind (with_numbers ns t)) (uv_mode_kind t) t.current m (λ b. refl)
+same_rules (IntraMode m) ns t = of_current_rules IntraMode (intra_mode_kind (with_numbers ns t)) (intra_mode_kind t) t.current m (λ b. refl)
+same_rules (Skip on) ns t = of_current_rules Skip (skip_kind (with_numbers ns t)) (skip_kind t) t.current on (λ b. refl)
+same_rules (Cdef i) ns t = of_current_rules Cdef (cdef_kind (with_numbers ns t)) (cdef_kind t) t.current i (λ b. refl)
+same_rules (FilterIntra on) ns t = of_current_rules FilterIntra (filter_intra_kind (with_numbers ns t)) (filter_intra_kind t) t.current on (λ b. refl)
+same_rules (Palette on) ns t = of_current_rules Palette (palette_kind (with_numbers ns t)) (palette_kind t) t.current on (λ b. refl)
+
+-- a step keeps what every state keeps
+pub kept_after : (step : TileStep) (ns : List ℕ) (t : Tile) → AreCdfs ns → IsKept t → IsAllowed step t → IsKept (entered step (with_numbers ns t))
+kept_after step ns t v k h =
+    let u = with_numbers ns t in
+    let still : IsKept u = numbers_kept ns t k in
+    all_kept (effects_of step u) u ((is_kind (question_of step) u v still).fit (answer_of step) (ap is_none (ap first_broken (same_rules step ns t) ∙ h))) still
+
+-- also with the numbers that its symbols leave
+pub kept_past : (t : Tile) (step : TileStep) → AreCdfs t.numbers → IsKept t → IsAllowed step t → IsKept (tile_after t step)
+kept_past t step v k h = kept_after step (context_along coded_by (learnt t.learns) (syntax_of (question_of step) t) (symbols_of step t) t.numbers) t (fits_after step t v k h).1 k h
+
+-- what a step changes fits, whatever the numbers
+pub step_fit : (step : TileStep) (ns : List ℕ) (t : Tile) → AreCdfs ns → IsKept t → IsAllowed step t → AllFit t.given.fi t.bc.blocks.cols t.bc.blocks.rows (effects_of step (with_numbers ns t))
+step_fit step ns t v k h =
+    let u = with_numbers ns t in
+    (is_kind (question_of step) u v (numbers_kept ns t k)).fit (answer_of step) (ap is_none (ap first_broken (same_rules step ns t) ∙ h))
+
+-- the place of a step is not by the numbers
+same_place : (q : Question) (ns : List ℕ) (t : Tile) → (kind_of q (with_numbers ns t)).place ≡ (kind_of q t).place
+same_place OfRowStart ns t = refl
+same_place (OfBlock bo size) ns t = refl
+same_place (OfPartition bo size) ns t = refl
+same_place OfIntraModeKf ns t = of_current_places IntraModeKf (intra_mode_kf_kind (with_numbers ns t)) (intra_mode_kf_kind t) t.current (λ b. refl)
+same_place OfUvMode ns t = of_current_places UvMode (uv_mode_kind (with_numbers ns t)) (uv_mode_kind t) t.current (λ b. refl)
+same_place OfIntraMode ns t = of_current_places IntraMode (intra_mode_kind (with_numbers ns t)) (intra_mode_kind t) t.current (λ b. refl)
+same_place OfSkip ns t = of_current_places Skip (skip_kind (with_numbers ns t)) (skip_kind t) t.current (λ b. refl)
+same_place OfCdef ns t = of_current_places Cdef (cdef_kind (with_numbers ns t)) (cdef_kind t) t.current (λ b. refl)
+same_place OfFilterIntra ns t = of_current_places FilterIntra (filter_intra_kind (with_numbers ns t)) (filter_intra_kind t) t.current (λ b. refl)
+same_place OfPalette ns t = of_current_places Palette (palette_kind (with_numbers ns t)) (palette_kind t) t.current (λ b. refl)
+
+pub step_at : (step : TileStep) (ns : List ℕ) (t : Tile) → AreCdfs ns → IsKept t → AllAt (kind_of (question_of step) t).place (effects_of step (with_numbers ns t))
+step_at step ns t v k =
+    subst (λ o. AllAt o (effects_of step (with_numbers ns t))) (same_place (question_of step) ns t) ((is_kind (question_of step) (with_numbers ns t) v (numbers_kept ns t k)).at_place (answer_of step))
+
+-- what a writer stores of a step, and the numbers after it
+pub step_written : (step : TileStep) (t : Tile) (p there : Position) (numbers : List ℕ) → AreCdfs t.numbers → IsKept t → Writes coded_by (learnt t.learns) (syntax_of (question_of step) t) step (standing p t.numbers) (standing there numbers) →
+    (there ≡ advance_all p (tokens_of step t)) × (numbers ≡ context_along coded_by (learnt t.learns) (syntax_of (question_of step) t) (symbols_of step t) t.numbers)
+step_written step t p there numbers v k w =
+    let tree = syntax_of (question_of step) t in
+    let one = (one_path (question_of step) t w.symbols step v k w.follows).2 in
+    let e : standing there numbers ≡ standing (advance_all p (tokens_of step t)) (context_along coded_by (learnt t.learns) tree (symbols_of step t) t.numbers) =
+    w.wrote ∙ ap (λ ss. stored_along coded_by (learnt t.learns) tree ss (standing p t.numbers)) one ∙ stored_is coded_by (learnt t.learns) tree (symbols_of step t) (standing p t.numbers) in
+    (ap (λ (s : Standing (List ℕ)). s.position) e, ap (λ (s : Standing (List ℕ)). s.context) e)
+
+-- what a writer has stored of a step that was refused: a front of its symbols
+pub step_begun : (step : TileStep) (t : Tile) (old new : Standing (List ℕ)) → AreCdfs t.numbers → IsKept t → Begins coded_by (learnt t.learns) (syntax_of (question_of step) t) step old new →
+    (front : List ℕ) × (rest : List ℕ) × (front ++ rest ≡ symbols_of step t) × (new ≡ stored_along coded_by (learnt t.learns) (syntax_of (question_of step) t) front old)
+step_begun step t old new v k b =
+    let tree = syntax_of (question_of step) t in
+    let one = one_path (question_of step) t (b.comes.symbols ++ b.rest) step v k (begins_front coded_by (learnt t.learns) tree step old new b) in
+    (b.comes.symbols, b.rest, one.2, b.comes.wrote)
+
+-- a step with no fault breaks no rule, and begins early enough
+pub faultless : (t : Tile) (bits : ℕ) (step : TileStep) → step_fault t bits step ≡ None → (bits ≤ most_bits) × IsAllowed step t
+faultless t bits step h = let n = neither (nat_lt most_bits bits) (first_broken (rules step t)) h in (grind (arith, nat_tests, n.0), n.1)
+  where
+    neither : (long : Bool) (o : Option Rule) → (if long then Some TooLong else option_map Broken o) ≡ None → (long ≡ false) × (o ≡ None)
+    neither true o e = cc
+    neither false None e = (refl, refl)
+    neither false (Some rule) e = cc
+
+-- nor has it a fault after fewer bits
+pub still_faultless : (t : Tile) (bits fewer : ℕ) (step : TileStep) → fewer ≤ bits → step_fault t bits step ≡ None → step_fault t fewer step ≡ None
+still_faultless t bits fewer step h none =
+    let f = faultless t bits step none in
+    let early : nat_lt most_bits fewer ≡ false = grind (arith, nat_tests, f.0, h) in
+    ap (λ b. if b then Some TooLong else option_map Broken (first_broken (rules step t))) early
+    ∙ ap (λ o. option_map Broken o) f.1

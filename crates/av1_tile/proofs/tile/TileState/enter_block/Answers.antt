@@ -1,0 +1,32 @@
+use Rattle.std.proofs.Common.{◌≡◌, ℕ, Option, Some, None, refl, sym, ap, subst, ◌∙◌, is_none}
+use Rattle.av1_blocks.specs.declared.block.Block.{Block as GridBlock}
+use Rattle.av1_blocks.specs.Grid.{Grid, over, IsInside}
+use Rattle.av1_geometry.specs.declared.block_offset.BlockOffset.{BlockOffset}
+use Rattle.av1_tile.specs.declared.unit.TileStep.TheVariants.{Block}
+use Rattle.av1_tile.specs.Kept.{IsKept}
+use Rattle.av1_tile.specs.State.{tile_of}
+use Rattle.av1_tile.specs.Step.{entered}
+use Rattle.av1_tile.specs.Tile.{Tile}
+use Rattle.av1_tile.proofs.StepLaws.{block_fits, kept_after}
+use Rattle.av1_tile.proofs.tile.TileState.enter_block.Goals as goal
+
+pub set_block-requires : goal.set_block-requires
+set_block-requires c =
+    let b = block_fits record { x = c.args.x; y = c.args.y } c.args.size (tile_of c.args.self.now) (ap is_none c.requires) in
+    record { column = b.column; row = b.row }
+
+pub returns-clause-tile : goal.returns-clause-tile
+returns-clause-tile c =
+    let t = tile_of c.args.self.now in
+    let bo : BlockOffset = record { x = c.args.x; y = c.args.y } in
+    ap (λ (g : Grid). record t { bc = record t.bc { blocks = g }; current = Some (record { 0 = bo }, c.args.size); uv = None })
+    (c.set_block.ensures ∙ ap (λ (b : GridBlock). over bo c.args.size (λ _. b) t.bc.blocks) c.new_block.ensures)
+
+pub invariant_of-self : goal.invariant_of-self
+invariant_of-self c =
+    let t = tile_of c.args.self.now in
+    let bo : BlockOffset = record { x = c.args.x; y = c.args.y } in
+    let e : record t { bc = record t.bc { blocks = c.set_block.new.self }; current = Some (record { 0 = bo }, c.args.size); uv = None } ≡ entered (Block c.args.x c.args.y c.args.size) t =
+    ap (λ (g : Grid). record t { bc = record t.bc { blocks = g }; current = Some (record { 0 = bo }, c.args.size); uv = None })
+    (c.set_block.ensures ∙ ap (λ (b : GridBlock). over bo c.args.size (λ _. b) t.bc.blocks) c.new_block.ensures) in
+    record { cdfs = c.args.self.now.cdfs; kept = subst IsKept (sym e) (kept_after (Block c.args.x c.args.y c.args.size) t.numbers t c.args.self.now.cdfs c.args.self.now.kept c.requires) }

@@ -1,0 +1,16 @@
+pub mod Coder
+pub mod Effect
+pub mod FilterSteps
+pub mod Given
+pub mod IntraSteps
+pub mod Kept
+pub mod Kind
+pub mod Place
+pub mod Script
+pub mod Sound
+pub mod State
+pub mod Step
+pub mod Tile
+pub mod TileBytes
+pub mod Trials
+pub mod Writing

@@ -1,0 +1,59 @@
+-- What is coded of a tile.
+use Rattle.std.specs.Prelude.{◌≡◌, ℕ, List, [], Option, Some, map, length, slice_index_or}
+use Rattle.av1_cdf.specs.Tables.{set_at, set_number}
+use Rattle.av1_model.specs.Interval.{Interval, whole, bits, final_bytes}
+use Rattle.av1_model.specs.Reading.{Coding}
+use Rattle.av1_tile.specs.declared.error.UnitError.{UnitError}
+use Rattle.av1_tile.specs.declared.report.TileReport.{TileReport}
+use Rattle.av1_tile.specs.declared.report.TrialCost.{TrialCost}
+use Rattle.av1_tile.specs.declared.unit.Item.{Item}
+use Rattle.av1_tile.specs.declared.unit.Unit.{Unit}
+use Rattle.av1_tile.specs.Given.{Given, given_of}
+use Rattle.av1_tile.specs.Script.{read_steps}
+use Rattle.av1_tile.specs.Step.{question_of}
+use Rattle.av1_tile.specs.Tile.{Tile, fresh}
+use Rattle.av1_tile.specs.Trials.{Progress, surviving, moved_all, first_wrong}
+
+-- the numbers that the distributions of a frame's tiles start from: those of the set for its quantizer
+abbrev pub numbers_of : Given → List ℕ
+numbers_of g = set_at g.tables (set_number g.fi.base_q_idx)
+
+-- what is coded before the first step of tile number k: nothing
+abbrev pub begin : Given → ℕ → Coding Tile
+begin g k = record { interval = whole; context = fresh g k (numbers_of g) }
+
+-- before the first item
+abbrev pub started : Coding Tile → Progress
+started at = record { at = at; trials = []; costs = [] }
+
+-- the items of tile number k
+abbrev pub script_of : Unit → ℕ → List Item
+script_of u k = slice_index_or u.scripts.items k []
+
+-- how far these items of tile number k come
+abbrev pub progress : Given → ℕ → List Item → Progress
+progress g k items = moved_all 0 (started (begin g k)) items
+
+-- the first thing that is wrong with them
+abbrev pub wrong_in : Given → ℕ → List Item → Option UnitError
+wrong_in g k items = first_wrong 0 (started (begin g k)) items
+
+-- the interval where coding them ends
+abbrev pub ending : Given → ℕ → List Item → Interval
+ending g k items = (progress g k items).at.interval
+
+-- what their trials cost
+abbrev pub costs_of : Given → ℕ → List Item → List TrialCost
+costs_of g k items = (progress g k items).costs
+
+-- what is told of the tile
+abbrev pub tile_report : Given → ℕ → List Item → TileReport
+tile_report g k items = record { bytes = length (final_bytes (ending g k items)); bits = bits (ending g k items) }
+
+-- A reader that is led by what is given of a tile and by the questions of the steps that survive takes exactly those steps from
+-- the tile. The tile is the final bytes of the interval where that reading ends, and its bytes and bits are told.
+pub record IsTile (g : Given) (k : ℕ) (items : List Item) (tile : List ℕ) (told : TileReport) : Type 0 where
+  pub end : Coding Tile
+  pub reads_back : read_steps (map question_of (surviving items)) tile (begin g k) ≡ Some (surviving items, end)
+  pub final : tile ≡ final_bytes end.interval
+  pub reported : told ≡ record { bytes = length tile; bits = bits end.interval }

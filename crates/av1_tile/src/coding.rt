@@ -1,0 +1,340 @@
+// From the items of a script to the bytes of a tile.
+ghost use Rattle.std.specs.Prelude.{◌≡◌, ◌⊎◌, ◌&&◌, ℕ, ◌+◌, ◌*◌, ◌^◌, ◌<◌, ◌≤◌, ◌∷◌, List, true, false, length, not, None, Some, IfOk, IfErr, OnOk, option_map};
+ghost use Rattle.av1_tile.specs.declared.error.UnitError.{UnitError};
+ghost use Rattle.av1_tile.specs.declared.error.UnitError.TheVariants.{OutOfMemory as MemoryError};
+ghost use Rattle.av1_tile.specs.declared.unit.Item.{Item};
+ghost use Rattle.av1_ec.specs.Recorder.{tokens_at};
+ghost use Rattle.av1_model.specs.Eighths.{eighths};
+ghost use Rattle.av1_model.specs.Interval.{whole, bits, final_bytes};
+ghost use Rattle.av1_model.specs.Position.{advance_all, encoder_at};
+ghost use Rattle.av1_tile.specs.Coder.{IsNew, HasCoded};
+ghost use Rattle.av1_tile.specs.Given.{given_of, tile_count, IsGiven};
+ghost use Rattle.av1_tile.specs.Step.{is_untried};
+ghost use Rattle.av1_tile.specs.Trials.{error_of, first_wrong};
+ghost use Rattle.av1_tile.specs.TileBytes.{script_of, wrong_in, ending, costs_of};
+
+use crate::check::check_step;
+use crate::tile::TileState;
+use crate::trial::TrialMark;
+use crate::{Item, Place, StepFault, TileStep, TrialCost, Unit, UnitError, Via};
+use av1_ec::{Known, Writer, WriterBase, WriterEncoder, WriterRecorder, law_of_recorders};
+use av1_geometry::{BlockOffset, OutOfMemory, Rule, TileBlockOffset};
+use std::alloc::Global;
+
+/// A tile on its way: what is coded, the trials that have begun, and what trials cost.
+#[derive(Drop)]
+pub(crate) struct TileCoder<'u, W> {
+    tile: TileState<'u>,
+    writer: W,
+    // What the trials that have begun and not ended keep, the innermost last.
+    marks: Vec<TrialMark>,
+    // The places of their costs.
+    begun: Vec<usize>,
+    // All trials' costs, in the order of their beginnings.
+    costs: Vec<TrialCost>,
+}
+
+impl<'u, W: Writer> TileCoder<'u, W> {
+    ghost use Rattle.av1_tile.specs.Coder.{Stands, Knows, Proceeds};
+    ghost use Rattle.av1_tile.specs.State.{tile_of};
+    ghost use Rattle.av1_tile.specs.Step.{is_inside};
+    ghost use Rattle.av1_tile.specs.Tile.{place_of_block};
+    ghost use Rattle.av1_tile.specs.Trials.{moved, moved_all, ended, misplaced, no_trial, item_fault, strays, first_wrong, place_of};
+    ghost use Rattle.av1_tile.specs.declared.unit.Item.TheVariants.{Step, Begin, Keep, Abandon};
+
+    // Whether a place lies in another superblock than the innermost trial.
+    fn strays(&self, place: BlockOffset) -> bool
+        ensures { Knows W.Known self.now (λ p. result ≡ strays p.trials (Some place)) }
+    {
+        match self.marks.last() {
+            Some(mark) => place.sb_offset() != mark.place.0.sb_offset(),
+            None => false,
+        }
+    }
+
+    // The place of a step: its own, or the current block's.
+    fn place_of(&self, step: &TileStep) -> Option<BlockOffset>
+        ensures { Knows W.Known self.now (λ p. result ≡ place_of (Step step.now) p.at.context) }
+    {
+        match step {
+            TileStep::RowStart => None,
+            TileStep::Block { x, y, .. } => Some(BlockOffset { x: *x, y: *y }),
+            TileStep::Partition { x, y, .. } => Some(BlockOffset { x: *x, y: *y }),
+            TileStep::Skip { .. } => self.place_of_current(),
+            TileStep::IntraModeKf { .. } => self.place_of_current(),
+            TileStep::UvMode { .. } => self.place_of_current(),
+            TileStep::IntraMode { .. } => self.place_of_current(),
+            TileStep::Cdef { .. } => self.place_of_current(),
+            TileStep::FilterIntra { .. } => self.place_of_current(),
+            TileStep::Palette { .. } => self.place_of_current(),
+        }
+    }
+
+    // The place of the current block.
+    fn place_of_current(&self) -> Option<BlockOffset>
+        ensures { Knows W.Known self.now (λ p. result ≡ option_map place_of_block p.at.context.current) }
+    {
+        match self.tile.current {
+            Some((bo, _)) => Some(bo.0),
+            None => None,
+        }
+    }
+
+    // Whether a trial has begun and not ended.
+    fn is_in_trial(&self) -> bool
+        ensures { Knows W.Known self.now (λ p. result ≡ not (no_trial p.trials)) }
+    {
+        !self.marks.is_empty()
+    }
+
+    // Whether a step lies in another superblock than the innermost trial.
+    fn is_astray(&self, step: &TileStep) -> bool
+        ensures { Knows W.Known self.now (λ p. result ≡ strays p.trials (place_of (Step step.now) p.at.context)) }
+    {
+        match self.place_of(step) {
+            Some(place) => self.strays(place),
+            None => false,
+        }
+    }
+
+    // Whether a trial has begun that can't have a step.
+    fn is_barred(&self, step: &TileStep) -> bool
+        ensures { Knows W.Known self.now (λ p. result ≡ (is_untried step.now && not (no_trial p.trials))) }
+    {
+        is_untried(step) && self.is_in_trial()
+    }
+
+    // Whether a step can't come here: no trial has it, or it strays from the innermost one.
+    fn is_misplaced_step(&self, step: &TileStep) -> bool
+        ensures { Knows W.Known self.now (λ p. result ≡ misplaced (Step step.now) p.at.context p.trials) }
+    {
+        self.is_barred(step) || self.is_astray(step)
+    }
+
+    // Whether an item can't come here: it ends no trial, no trial has it, or it strays from the innermost one.
+    fn is_misplaced(&self, item: &Item) -> bool
+        ensures { Knows W.Known self.now (λ p. result ≡ misplaced item.now p.at.context p.trials) }
+    {
+        match item {
+            Item::Step(step) => self.is_misplaced_step(step),
+            Item::Begin(place) => self.strays(place.0),
+            Item::Keep | Item::Abandon => self.marks.is_empty(),
+        }
+    }
+
+    // What is wrong with an item that may come here.
+    fn check_item(&self, item: &Item) -> Option<StepFault>
+        ensures { Knows W.Known self.now (λ p. result ≡ item_fault item.now p.at) }
+    {
+        match item {
+            Item::Step(step) => check_step(&self.tile, self.writer.tell(), step),
+            Item::Begin(place) if !self.tile.contains(place.0) => Some(StepFault::Broken(Rule(60))),
+            Item::Begin(_) | Item::Keep | Item::Abandon => None,
+        }
+    }
+
+    // A trial begins at a place inside the tile, by item `n`.
+    fn begin(&mut self, alloc: Global, n: usize, place: TileBlockOffset) -> Result<(), OutOfMemory>
+        requires inside { is_inside (tile_of self.old.tile) place.0 ≡ true }
+        requires near { Knows W.Known self.old (λ p. strays p.trials (Some place.0) ≡ false) }
+        ensures { OnOk result (Proceeds W.Known self.old self.new (λ p. moved n p (Begin place))) }
+    {
+        let mark = self.tile.mark(alloc, &self.writer, place)?;
+        let trial = self.costs.len();
+        self.costs.push(TrialCost {
+            tile: self.tile.number(),
+            item: n,
+            eighths: 0,
+            kept: false,
+        })?;
+        self.begun.push(trial)?;
+        self.marks.push(mark)?;
+        Ok(())
+    }
+
+    // The innermost trial ends.
+    fn end(&mut self, kept: bool)
+        requires { Stands W.Known self.old }
+        ensures { Proceeds W.Known self.old self.new (λ p. ended kept p.at p.trials p.costs) }
+    {
+        let Some(mark) = self.marks.pop() else { return };
+        let Some(trial) = self.begun.pop() else {
+            return
+        };
+        let cost = &mut self.costs[trial];
+        cost.eighths = self.writer.tell_frac() - mark.tell;
+        cost.kept = kept;
+        if !kept {
+            self.tile.go_back(&mut self.writer, &mark);
+        }
+    }
+
+    // Takes item `n`, where it is in its place and breaks no rule.
+    fn code_item(&mut self, alloc: Global, n: usize, item: &Item) -> Result<(), UnitError>
+        requires standing { Stands W.Known self.old }
+        ensures ok { OnOk result (Proceeds W.Known self.old self.new (λ p. moved n p item.now)) }
+        ensures right { OnOk result (Knows W.Known self.old (λ p. (rest : List Item) → first_wrong n p (item.now ∷ rest) ≡ first_wrong (n + 1) (moved n p item.now) rest)) }
+        ensures err { IfErr result (λ e. (e ≡ MemoryError) ⊎ Knows W.Known self.old (λ p. (rest : List Item) → first_wrong n p (item.now ∷ rest) ≡ Some e)) }
+    {
+        let tile = self.tile.number();
+        if self.is_misplaced(item) {
+            return Err(UnitError::BadScript { tile, item: n });
+        }
+        if let Some(fault) = self.check_item(item) {
+            return Err(error_of(tile, n, fault));
+        }
+        match item {
+            Item::Step(step) => {
+                self.tile.write_step(&mut self.writer, step)?;
+            }
+            Item::Begin(place) => self.begin(alloc, n, *place)?,
+            Item::Keep => self.end(true),
+            Item::Abandon => self.end(false),
+        }
+        Ok(())
+    }
+
+    // Takes all items of a tile, at whose beginning this stands.
+    fn code_items(&mut self, alloc: Global, items: &[Item]) -> Result<(), UnitError>
+        requires standing { Stands W.Known self.old }
+        ensures ok { OnOk result (Proceeds W.Known self.old self.new (λ p. moved_all 0 p items.now)) }
+        ensures right { OnOk result (Knows W.Known self.old (λ p. first_wrong 0 p items.now ≡ None)) }
+        ensures err { IfErr result (λ e. (e ≡ MemoryError) ⊎ Knows W.Known self.old (λ p. first_wrong 0 p items.now ≡ Some e)) }
+    {
+        for (i, item) in items.iter().enumerate() {
+            self.code_item(alloc, i, item)?;
+        }
+        if self.marks.is_empty() {
+            Ok(())
+        } else {
+            Err(UnitError::BadScript {
+                tile: self.tile.number(),
+                item: items.len(),
+            })
+        }
+    }
+}
+
+// Whether no trial has a step: what it changes is not undone.
+fn is_untried(step: &TileStep) -> bool
+    ensures { result ≡ is_untried step.now }
+{
+    match step {
+        TileStep::RowStart => true,
+        _ => false,
+    }
+}
+
+// The error that says what is wrong with item `n` of a tile.
+fn error_of(tile: u32, n: usize, fault: StepFault) -> UnitError
+    ensures { result ≡ error_of tile n fault }
+{
+    let place = Place::Item { tile, item: n };
+    match fault {
+        StepFault::TooLong => UnitError::TooLong { place },
+        StepFault::Broken(rule) => UnitError::Refused { place, rule },
+    }
+}
+
+/// A tile that is coded.
+#[derive(Drop)]
+pub struct CodedTile {
+    pub bytes: Vec<u8>,
+    pub bits: u32,
+    pub trials: Vec<TrialCost>,
+}
+
+/// Codes the items of a tile by a new writer. It gives the writer back, and what the trials cost.
+pub fn code_by<W: Writer + Drop>(
+    alloc: Global,
+    unit: &Unit,
+    tile: usize,
+    writer: W,
+) -> Result<(W, Vec<TrialCost>), UnitError>
+    requires given { IsGiven (given_of unit.now) }
+    requires tile { tile < tile_count unit.now.fi }
+    requires script { tile < length unit.now.scripts.items }
+    requires new { IsNew (W.position writer) }
+    ensures allowed { OnOk result (wrong_in (given_of unit.now) tile (script_of unit.now tile) ≡ None) }
+    ensures coded { IfOk result (λ r. HasCoded (W.position writer) (W.position r.0) (ending (given_of unit.now) tile (script_of unit.now tile))) }
+    ensures few { OnOk result (eighths (ending (given_of unit.now) tile (script_of unit.now tile)) ≤ 8 * (2 ^ 28 + 2 ^ 24)) }
+    ensures trials { IfOk result (λ r. r.1.items ≡ costs_of (given_of unit.now) tile (script_of unit.now tile)) }
+    ensures err { IfErr result (λ e. (e ≡ MemoryError) ⊎ (wrong_in (given_of unit.now) tile (script_of unit.now tile) ≡ Some e)) }
+{
+    let mut coder = TileCoder {
+        tile: TileState::new(alloc, unit, tile)?,
+        writer,
+        marks: Vec::new(alloc),
+        begun: Vec::new(alloc),
+        costs: Vec::new(alloc),
+    };
+    let script = &unit.scripts[tile];
+    coder.code_items(alloc, &script.items)?;
+    let TileCoder { writer, costs, .. } = coder;
+    Ok((writer, costs))
+}
+
+// A new encoder that gets a recorder's tokens.
+fn replayed(
+    alloc: Global,
+    mut recorder: WriterBase<WriterRecorder>,
+) -> Result<WriterBase<WriterEncoder>, OutOfMemory>
+    ensures { IfOk result (λ w. ⟦<WriterBase<WriterEncoder> as Known>⟧.position w ≡ advance_all (encoder_at whole) (tokens_at (⟦<WriterBase<WriterRecorder> as Known>⟧.position recorder))) }
+{
+    law_of_recorders(&recorder);
+    let mut encoder = WriterEncoder::new(alloc);
+    recorder.replay_into(&mut encoder)?;
+    Ok(encoder)
+}
+
+// Codes the items as `code_by` does, by an encoder or by a recorder that is replayed into one. The encoder is the same.
+fn encode(
+    alloc: Global,
+    unit: &Unit,
+    tile: usize,
+    via: Via,
+) -> Result<(WriterBase<WriterEncoder>, Vec<TrialCost>), UnitError>
+    requires given { IsGiven (given_of unit.now) }
+    requires tile { tile < tile_count unit.now.fi }
+    requires script { tile < length unit.now.scripts.items }
+    ensures allowed { OnOk result (wrong_in (given_of unit.now) tile (script_of unit.now tile) ≡ None) }
+    ensures coded { IfOk result (λ r. ⟦<WriterBase<WriterEncoder> as Known>⟧.position r.0 ≡ encoder_at (ending (given_of unit.now) tile (script_of unit.now tile))) }
+    ensures few { OnOk result (eighths (ending (given_of unit.now) tile (script_of unit.now tile)) ≤ 8 * (2 ^ 28 + 2 ^ 24)) }
+    ensures trials { IfOk result (λ r. r.1.items ≡ costs_of (given_of unit.now) tile (script_of unit.now tile)) }
+    ensures err { IfErr result (λ e. (e ≡ MemoryError) ⊎ (wrong_in (given_of unit.now) tile (script_of unit.now tile) ≡ Some e)) }
+{
+    match via {
+        Via::Direct => {
+            let writer = WriterEncoder::new(alloc);
+            let (encoder, trials) = code_by(alloc, unit, tile, writer)?;
+            Ok((encoder, trials))
+        }
+        Via::Recorded => {
+            let writer = WriterRecorder::new(alloc);
+            let (recorder, trials) = code_by(alloc, unit, tile, writer)?;
+            let encoder = replayed(alloc, recorder)?;
+            Ok((encoder, trials))
+        }
+    }
+}
+
+/// Codes the items of a tile.
+pub fn code_tile(alloc: Global, unit: &Unit, tile: usize, via: Via) -> Result<CodedTile, UnitError>
+    requires given { IsGiven (given_of unit.now) }
+    requires tile { tile < tile_count unit.now.fi }
+    requires script { tile < length unit.now.scripts.items }
+    ensures allowed { OnOk result (wrong_in (given_of unit.now) tile (script_of unit.now tile) ≡ None) }
+    ensures bytes { IfOk result (λ r. r.bytes.items ≡ final_bytes (ending (given_of unit.now) tile (script_of unit.now tile))) }
+    ensures bits { IfOk result (λ r. r.bits ≡ bits (ending (given_of unit.now) tile (script_of unit.now tile))) }
+    ensures trials { IfOk result (λ r. r.trials.items ≡ costs_of (given_of unit.now) tile (script_of unit.now tile)) }
+    ensures short { IfOk result (λ r. length r.bytes.items ≤ 2 ^ 26) }
+    ensures err { IfErr result (λ e. (e ≡ MemoryError) ⊎ (wrong_in (given_of unit.now) tile (script_of unit.now tile) ≡ Some e)) }
+{
+    let (encoder, trials) = encode(alloc, unit, tile, via)?;
+    let bits = encoder.tell();
+    Ok(CodedTile {
+        bytes: encoder.done()?,
+        bits,
+        trials,
+    })
+}

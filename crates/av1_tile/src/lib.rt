@@ -1,0 +1,38 @@
+//! A tile: the steps that are coded in it, its state, and trials of steps that are kept or given up.
+//!
+//! Which symbols a step has is said once, by the tree that a reader goes down (`specs/Step.antt`).
+//!
+//! - `unit`: what is given: a frame, and a script of steps for each of its tiles
+//! - `coding`: from the items of a script to the bytes of a tile
+//! - `tile`: the state of a tile, and one step in it (`write_step`)
+//! - `block_steps`: the steps that begin rows and blocks, part blocks and skip them
+//! - `intra_steps`: the steps that say how intra blocks are predicted
+//! - `filter_steps`: the steps of the current block for filters, segments and palettes
+//! - `trial`: what a trial keeps, and going back to it
+//! - `check`: what is wrong with a step (`check_step`)
+//! - `place`: where the tiles of a frame lie
+//! - `report`, `error`: what is answered
+//! - `laws`: theorems of steps and of lists of steps
+#![tactic(auto)]
+
+mod block_steps;
+mod check;
+mod coding;
+mod error;
+mod filter_steps;
+mod intra_steps;
+mod laws;
+mod place;
+mod report;
+mod tile;
+mod trial;
+mod unit;
+
+pub use check::check_step;
+pub use coding::{CodedTile, code_by, code_tile};
+pub use error::{Place, StepFault, UnitError};
+pub use laws::{law_of_read_steps, law_of_reading_steps, law_of_steps};
+pub use report::{TileReport, TrialCost};
+pub use tile::TileState;
+pub use trial::TrialMark;
+pub use unit::{Item, TileScript, TileStep, Unit, Via};

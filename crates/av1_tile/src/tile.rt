@@ -1,0 +1,142 @@
+// The state of a tile, which steps move on.
+ghost use Rattle.std.specs.Prelude.{◌≡◌, ◌+◌, ◌^◌, ◌≤◌, ◌<◌, None, IfOk, OnOk, OnErr};
+ghost use Rattle.av1_cdf.specs.Context.{AreCdfs};
+ghost use Rattle.av1_cdf.specs.Log.{KeepsUndone};
+ghost use Rattle.av1_ec.specs.Storing.{Keeps};
+ghost use Rattle.av1_tile.specs.Kept.{IsKept};
+ghost use Rattle.av1_tile.specs.Place.{tile_at};
+
+use crate::place::TileSides;
+use crate::{TileStep, Unit};
+use av1_blocks::{BlockContext, FrameBlocks};
+use av1_cdf::CDFContext;
+use av1_ec::Writer;
+use av1_geometry::{BlockOffset, BlockSize, OutOfMemory, PredictionMode, Rule, TileBlockOffset};
+use av1_syntax::ContextWriter;
+use std::alloc::Global;
+
+/// The state of a tile of a unit: what decides how the next step is coded. It moves on by the steps that are written
+/// (`write_step`).
+#[derive(Drop)]
+pub struct TileState<'u> {
+    pub unit: &'u Unit,
+
+    /// The grid and its edges, the context of the distributions, and the log of what trials changed in it.
+    pub cw: ContextWriter,
+
+    /// The block that steps speak of.
+    pub current: Option<(TileBlockOffset, BlockSize)>,
+
+    /// The chroma mode of the current block, once it is entered.
+    pub uv: Option<PredictionMode>,
+
+    // Which tile of the frame it is.
+    number: u32,
+
+    ghost cdfs: { AreCdfs cw.fc },
+    ghost kept: { IsKept (tile_at unit.now number cw current uv) },
+}
+
+impl<'u> TileState<'u> {
+    ghost use Rattle.av1_geometry.specs.Rules.{first_broken};
+    ghost use Rattle.av1_tile.specs.Given.{given_of, tile_count, IsGiven};
+    ghost use Rattle.av1_tile.specs.State.{tile_of, log_of};
+    ghost use Rattle.av1_tile.specs.Step.{entered, is_inside, rules, step_fault};
+    ghost use Rattle.av1_tile.specs.Tile.{with_numbers};
+    ghost use Rattle.av1_tile.specs.TileBytes.{begin};
+    ghost use Rattle.av1_tile.specs.Writing.{Writes, WroteStep};
+
+    /// A tile of a unit before its first step.
+    pub fn new(alloc: Global, unit: &'u Unit, tile: usize) -> Result<Self, OutOfMemory>
+        requires given { IsGiven (given_of unit.now) }
+        requires tile { tile < tile_count unit.now.fi }
+        ensures { IfOk result (λ s. tile_of s ≡ (begin (given_of unit.now) tile).context) }
+    {
+        let TileSides { cols, rows } = TileSides::of(&unit.fi, tile);
+        let fc = CDFContext::new(&unit.tables, unit.fi.base_q_idx);
+        let blocks = FrameBlocks::new(alloc, cols, rows)?.as_tile_blocks_mut();
+        Ok(TileState {
+            unit,
+            cw: ContextWriter::new(alloc, fc, BlockContext::new(blocks)),
+            current: None,
+            uv: None,
+            number: tile as u32,
+        })
+    }
+
+    // Which tile of the frame it is.
+    pub(crate) fn number(&self) -> u32
+        ensures { result ≡ (tile_of self.now).number }
+    {
+        self.number
+    }
+
+    // Whether a place lies inside.
+    pub(crate) fn contains(&self, place: BlockOffset) -> bool
+        ensures { result ≡ is_inside (tile_of self.now) place }
+    {
+        place.x < self.cw.bc.blocks.cols() && place.y < self.cw.bc.blocks.rows()
+    }
+
+    // The first rule that a step breaks.
+    pub(crate) fn broken_rule(&self, step: &TileStep) -> Option<Rule>
+        ensures { result ≡ first_broken (rules step.now (tile_of self.now)) }
+    {
+        match step {
+            TileStep::RowStart => None,
+            TileStep::Block { x, y, size } => self.check_block(*x, *y, *size),
+            TileStep::Partition { x, y, size, answer } => {
+                self.check_partition(*x, *y, *size, *answer)
+            }
+            TileStep::Skip { answer } => self.check_skip(*answer),
+            TileStep::IntraModeKf { answer } => self.check_intra_mode_kf(*answer),
+            TileStep::UvMode { answer } => self.check_uv_mode(*answer),
+            TileStep::IntraMode { answer } => self.check_intra_mode(*answer),
+            TileStep::Cdef { answer } => self.check_cdef(*answer),
+            TileStep::FilterIntra { answer } => self.check_filter_intra(*answer),
+            TileStep::Palette { answer } => self.check_palette(*answer),
+        }
+    }
+
+    /// Writes a step in which `check_step` finds no fault: the writer and the numbers move by the symbols of the step, and the
+    /// state as its answer says. A refusal leaves them after a front of the symbols, and the rest of the state as it was. What was kept
+    /// to go back to stays in both cases, in the writer and in the log of the numbers.
+    pub fn write_step<W: Writer>(&mut self, w: &mut W, step: &TileStep) -> Result<(), OutOfMemory>
+        requires { step_fault (tile_of self.old) ((W.position w.old).shift + 1) step.now ≡ None }
+        ensures wrote { WroteStep W.Known result step.now (tile_of self.old) w.old w.new (tile_of self.new).numbers }
+        ensures tile { OnOk result (tile_of self.new ≡ entered step.now (with_numbers (tile_of self.new).numbers (tile_of self.old))) }
+        ensures refused { OnErr result (tile_of self.new ≡ with_numbers (tile_of self.new).numbers (tile_of self.old)) }
+        ensures kept { Keeps W.Known w.old w.new }
+        ensures undone { KeepsUndone (log_of self.old) (log_of self.new) (tile_of self.old).numbers (tile_of self.new).numbers }
+    {
+        self.write_allowed(w, step)
+    }
+
+    // Writes a step that breaks no rule and begins early enough.
+    fn write_allowed<W: Writer>(&mut self, w: &mut W, step: &TileStep) -> Result<(), OutOfMemory>
+        requires rules { first_broken (rules step.now (tile_of self.old)) ≡ None }
+        requires early { (W.position w.old).shift ≤ 2 ^ 28 }
+        ensures { Writes W.Known result step.now w.old w.new self.old self.new }
+    {
+        match step {
+            TileStep::RowStart => {
+                self.enter_row();
+                Ok(())
+            }
+            TileStep::Block { x, y, size } => {
+                self.enter_block(*x, *y, *size);
+                Ok(())
+            }
+            TileStep::Partition { x, y, size, answer } => {
+                self.write_partition(w, *x, *y, *size, *answer)
+            }
+            TileStep::Skip { answer } => self.write_skip(w, *answer),
+            TileStep::IntraModeKf { answer } => self.write_intra_mode_kf(w, *answer),
+            TileStep::UvMode { answer } => self.write_uv_mode(w, *answer),
+            TileStep::IntraMode { answer } => self.write_intra_mode(w, *answer),
+            TileStep::Cdef { answer } => self.write_cdef(w, *answer),
+            TileStep::FilterIntra { answer } => self.write_filter_intra(w, *answer),
+            TileStep::Palette { answer } => self.write_palette(w, *answer),
+        }
+    }
+}

@@ -1,0 +1,134 @@
+// What a unit says.
+ghost use Rattle.std.specs.Prelude.{List};
+
+use av1_cdf::Tables;
+use av1_frame::{FrameInvariants, FrameState, Metadata, Refs};
+use av1_geometry::{BlockSize, PartitionType, PredictionMode, TileBlockOffset};
+use std::marker::Model;
+
+/// One temporal unit: a frame, what its headers say, and what is coded in its tiles.
+#[derive(Drop)]
+pub struct Unit {
+    /// What the distributions start from: four sets of 5528 numbers, for quantizers up to 20, 60, 120 and 255.
+    pub tables: Tables,
+
+    /// The sequence and the frame.
+    pub fi: FrameInvariants,
+
+    /// The state of the frame's filters and segments.
+    pub fs: FrameState,
+
+    /// What is kept of the eight reference frames.
+    pub refs: Refs,
+
+    /// The metadata, in order.
+    pub metadata: Vec<Metadata>,
+
+    /// Whether a temporal delimiter comes first.
+    pub delimiter: bool,
+
+    /// What is coded in each tile, in raster order.
+    pub scripts: Vec<TileScript>,
+}
+
+/// The items of a tile, in coding order.
+#[derive(Drop)]
+pub struct TileScript {
+    pub items: Vec<Item>,
+}
+
+impl Model for TileScript {
+    ghost use Rattle.std.specs.Prelude.{List};
+    ghost use Rattle.av1_tile.specs.declared.unit.Item.{Item};
+
+    ghost Value = { List Item };
+
+    ghost view = { λ s. s.items.items };
+}
+
+/// One item of a script.
+#[derive(Clone, Copy, Debug, PartialEq, Eq)]
+pub enum Item {
+    /// Something is coded, or becomes the current block.
+    Step(TileStep),
+
+    /// A trial begins at this place. What follows is tried, up to the item that ends the trial.
+    Begin(TileBlockOffset),
+
+    /// The innermost trial ends, and what was tried stays.
+    Keep,
+
+    /// The innermost trial ends, and what was tried is undone.
+    Abandon,
+}
+
+/// One step: a question, which the reader is given, and its answer, which the bytes hold.
+///
+/// Places count 4x4 luma blocks from the corner of the tile.
+#[derive(Clone, Copy, Debug, PartialEq, Eq)]
+pub enum TileStep {
+    /// A row of superblocks begins. Nothing is coded.
+    RowStart,
+
+    /// A block becomes the current one. Nothing is coded.
+    Block {
+        x: usize,
+        y: usize,
+        size: BlockSize,
+    },
+
+    /// How a block is parted (`partition`, AV1 specification 5.11.4).
+    Partition {
+        x: usize,
+        y: usize,
+        size: BlockSize,
+        answer: PartitionType,
+    },
+
+    /// Whether the current block has no coefficients (`skip`, AV1 specification 5.11.11).
+    Skip {
+        answer: bool,
+    },
+
+    /// The luma mode of the current block in an intra frame (`intra_frame_y_mode`, AV1 specification 5.11.7).
+    IntraModeKf {
+        answer: PredictionMode,
+    },
+
+    /// The chroma mode of the current block (`uv_mode`, AV1 specification 5.11.22).
+    UvMode {
+        answer: PredictionMode,
+    },
+
+    /// The luma mode of the current block in a frame that is not an intra frame (`y_mode`, AV1 specification 5.11.22).
+    IntraMode {
+        answer: PredictionMode,
+    },
+
+    /// Which strengths the constrained directional enhancement filter has in the superblock (`cdef_idx`, AV1 specification 5.11.56).
+    Cdef {
+        answer: u8,
+    },
+
+    /// That the current block has no filter intra (`use_filter_intra`, AV1 specification 5.11.24): the answer is false.
+    FilterIntra {
+        answer: bool,
+    },
+
+    /// That the current block has no palette (`has_palette_y` and `has_palette_uv`, AV1 specification 5.11.46): the answer is
+    /// false.
+    Palette {
+        answer: bool,
+    },
+}
+
+/// The way of a tile's symbols to its bytes. It changes no byte.
+#[derive(Clone, Copy, Debug, Default, PartialEq, Eq)]
+pub enum Via {
+    /// Through an encoder.
+    #[default]
+    Direct,
+
+    /// Through a recorder, which is then replayed into an encoder.
+    Recorded,
+}
