@@ -5,7 +5,7 @@ mod Coming
 mod Effects
 mod FilterArms
 mod FilterSteps
-mod Fresh
+pub mod Fresh
 mod IntraSteps
 mod KindLaws
 mod Marking
