@@ -38,7 +38,7 @@ impl<'a> PlainReader<'a> {
         }
     }
 
-    /// The answer of a step's question: of `Skip` the flag that the bytes tell.
+    /// The answer of a step's question: of `Skip` the flag that the bytes tell; of another kind it reads nothing.
     pub fn answer(&mut self, step: &TileStep) -> Option<bool> {
         match step {
             TileStep::Block { x, y, size } => {
@@ -51,6 +51,7 @@ impl<'a> PlainReader<'a> {
                 self.set_skip(flag);
                 Some(flag)
             }
+            _ => None,
         }
     }
 

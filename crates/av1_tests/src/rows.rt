@@ -106,7 +106,7 @@ fn reads_back(
     for step in surviving(alloc, &script.items)?.iter() {
         let want = match step {
             TileStep::Skip { answer } => Some(*answer),
-            TileStep::Block { .. } => None,
+            _ => None,
         };
         assert_eq!(rt; reader.answer(step), want);
     }
