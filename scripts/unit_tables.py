@@ -117,7 +117,7 @@ def kind(text):
 
 
 def special(fit):
-    """A kind that is said by its reading: two tables in a row, a text or another kind, or kinds by their names."""
+    """A kind that is said by its reading: two tables in a row, a text or another kind, kinds by their names, or null or one of two forms."""
     word, *rest = parts(fit)
     if word == "fit_then" and rest[0] == "op_rows":
         return ("item", item_kinds())
@@ -125,14 +125,26 @@ def special(fit):
         second = re.search(r"then_of (\w+)", body(rest[1]))[1]
         return ("object", rest[0], rows(rest[0]) + rows(second))
     names, other = DEFINITIONS[word]
+    if names[0] == ["null"]:
+        return ("nullable", forms(parts(other[1])[2]))
     return ("either", words_of(re.search(r"or_unfit \((\w+) name\)", names[1])[1]), kind(re.search(r"(\w+)\.fit", other[1])[1]))
+
+
+def forms(choice):
+    """An object of one form where it has a member, else of another."""
+    member, *tables = re.search(r'get_member \(codes "(\w+)"\) ms\) then then_of (\w+) .* else then_of (\w+)', body(choice)).groups()
+    return ("forms", member, [("object", name, rows(name)) for name in tables])
 
 
 def item_kinds():
     found = []
-    for name, how in re.findall(r'\(codes "(\w+)", ([^)]*)\)', body("item_kinds")):
-        table = parts(how)
-        found.append((name, rows(table[1]) if table[0] == "made_of" else []))
+    table, more = "", "item_kinds"
+    while more in DEFINITIONS:
+        table += body(more)
+        more = body(more).split()[-1]
+    for name, how in re.findall(r'\(codes "(\w+)", ([^)]*)\)', table):
+        words = parts(how)
+        found.append((name, rows(words[1]) if words[0] == "made_of" else []))
     return found
 
 
@@ -212,6 +224,8 @@ def value_text(k):
         return f"{size} {value_text(k[3])}"
     if k[0] == "item":
         return "[items](#items)"
+    if k[0] == "forms":
+        return " or ".join(value_text(form) for form in k[2])
     name = re.sub(r"_rows$", "", k[1])
     return f"[{TITLES[name]}](#{TITLES[name].lower().replace(' ', '-').replace('`', '')})"
 
@@ -224,11 +238,12 @@ def power(n):
 NAMES = {
     "sequence": "seq", "rational": "time_base", "mastering": "mastering_display", "invariant": "frame", "grain": "film_grain",
     "segmentation": "segmentation", "deblock": "deblock", "plane": "restoration_plane", "ref": "reference", "message": "message",
+    "wiener": "wiener_filter", "guided": "guided_filter",
 }
 TITLES = {
     "unit": "The unit", "sequence": "`seq`", "rational": "`time_base`", "mastering": "`mastering_display`", "invariant": "`frame`",
     "grain": "`film_grain`", "segmentation": "`segmentation`", "deblock": "`deblock`", "plane": "A plane of `restoration`",
-    "ref": "A reference", "message": "A message",
+    "ref": "A reference", "message": "A message", "wiener": "A Wiener filter", "guided": "A self-guided filter",
 }
 
 
@@ -240,6 +255,13 @@ def objects(k, seen):
             objects(member, seen)
     elif k[0] in ("list", "nullable", "either"):
         objects(k[-1], seen)
+    elif k[0] == "item":
+        for _, members in k[1]:
+            for _, member, _ in members:
+                objects(member, seen)
+    elif k[0] == "forms":
+        for form in k[2]:
+            objects(form, seen)
     return seen
 
 
@@ -292,6 +314,8 @@ def schema_of(k):
         return {"type": "array", **size, "items": schema_of(k[3])}
     if k[0] == "item":
         return {"$ref": "#/$defs/item"}
+    if k[0] == "forms":
+        return {"oneOf": [schema_of(form) for form in k[2]]}
     return {"$ref": "#/$defs/" + NAMES[re.sub(r"_rows$", "", k[1])]}
 
 
@@ -366,6 +390,8 @@ def check(k, value, path):
     elif k[0] == "nullable":
         if value is not None:
             check(k[1], value, path)
+    elif k[0] == "forms":
+        check(k[2][0] if isinstance(value, dict) and k[1] in value else k[2][1], value, path)
     elif k[0] == "list":
         ok = isinstance(value, list) and k[1] <= len(value) and (k[2] is None or len(value) <= k[2])
         if ok:

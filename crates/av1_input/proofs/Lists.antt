@@ -147,10 +147,10 @@ pub no_items : {A : Type 0} (n : ℕ) (fit : Data → Fitted A) (d : Data) (e : 
 unfolding fit_up_to
 no_items n fit d e h = why_first e (fit_list (λ len. nat_le len n) fit d) (λ xs. Fits record { items = xs }) (no_list (λ len. nat_le len n) fit d e h)
 
--- ---- lists of numbers
+-- ---- lists of lists
 
-abbrev pub numbers_of : List (Vec ℕ Global) → List (List ℕ)
-numbers_of sets = map (λ set. set.items) sets
+abbrev pub lists_of : {A : Type 0} → List (Vec A Global) → List (List A)
+lists_of vs = map (λ v. v.items) vs
 
-pub numbers_more : (front more : List (Vec ℕ Global)) (x : Vec ℕ Global) → more ≡ front ++ x ∷ [] → numbers_of more ≡ numbers_of front ++ x.items ∷ []
-numbers_more front more x e = ap numbers_of e ∙ map-append (λ (set : Vec ℕ Global). set.items) front (x ∷ [])
+pub lists_more : {A : Type 0} (front more : List (Vec A Global)) (x : Vec A Global) → more ≡ front ++ x ∷ [] → lists_of more ≡ lists_of front ++ x.items ∷ []
+lists_more {A = A} front more x e = ap lists_of e ∙ map-append (λ (v : Vec A Global). v.items) front (x ∷ [])

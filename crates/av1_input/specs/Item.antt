@@ -1,5 +1,5 @@
 -- What an item of a tile's script is: its kind, which is said by `op`, and then the members of that kind.
-use Rattle.std.specs.Prelude.{ℕ, List, [], ◌∷◌, Bool, false, if◌then◌else◌, codes}
+use Rattle.std.specs.Prelude.{ℕ, ℤ, pos, List, [], ◌∷◌, Bool, false, slice_index_or, if◌then◌else◌, codes}
 use Rattle.std.specs.Str.{bytes_eq}
 use Rattle.serde_json.specs.Data.{Members as Left}
 use Rattle.av1_geometry.specs.BlockSize.{size_of}
@@ -11,11 +11,21 @@ use Rattle.av1_geometry.specs.PartitionType.{partition_of}
 use Rattle.av1_geometry.specs.declared.prediction_mode.PredictionMode.{PredictionMode}
 use Rattle.av1_geometry.specs.declared.prediction_mode.PredictionMode.TheVariants.{DC_PRED}
 use Rattle.av1_geometry.specs.PredictionMode.{prediction_mode_of}
+use Rattle.av1_geometry.specs.TxSize.{tx_size_of}
+use Rattle.av1_geometry.specs.declared.tx_size.TxSize.{TxSize}
+use Rattle.av1_geometry.specs.declared.tx_size.TxSize.TheVariants.{TX_4X4}
+use Rattle.av1_geometry.specs.TxType.{tx_type_of}
+use Rattle.av1_geometry.specs.declared.tx_type.TxType.{TxType}
+use Rattle.av1_geometry.specs.declared.tx_type.TxType.TheVariants.{DCT_DCT}
+use Rattle.av1_syntax.specs.declared.restoration.RestorationFilter.{RestorationFilter}
 use Rattle.av1_tile.specs.declared.unit.Item.{Item}
 use Rattle.av1_tile.specs.declared.unit.Item.TheVariants.{Step, Begin, Keep, Abandon}
-use Rattle.av1_tile.specs.declared.unit.TileStep.TheVariants.{RowStart, Block, Partition, Skip, IntraModeKf, UvMode, IntraMode, Cdef, FilterIntra, Palette}
+use Rattle.av1_tile.specs.declared.unit.TileStep.TheVariants.{RowStart, Block, Partition, Skip, Segment, Cdef, DeltaLf, IntraModeKf, IntraMode}
+use Rattle.av1_tile.specs.declared.unit.TileStep.TheVariants.{UvMode, AngleDelta, CflAlphas, FilterIntra, Palette, TxNote, TxIntra, TxInter, Coeffs}
+use Rattle.av1_tile.specs.declared.unit.TileStep.TheVariants.{Lrf}
+use Rattle.av1_input.specs.Filter.{filter}
 use Rattle.av1_input.specs.Fitted.{Fitted, Unfit, name_step}
-use Rattle.av1_input.specs.Kinds.{Kind, choice, list, text, truth, whole}
+use Rattle.av1_input.specs.Kinds.{Kind, choice, exactly, list, signed, text, truth, whole}
 use Rattle.av1_input.specs.Rows.{Row, closed, fit_then, required, then_of}
 
 -- the members of a question, and its answer
@@ -23,11 +33,14 @@ pub record Asked (A : Type 0) : Type 0 where
   pub x : ℕ
   pub y : ℕ
   pub size : BlockSize
+  pub chroma : Bool
+  pub plane : ℕ
+  pub tx_type : TxType
   pub a : A
 
 -- nothing is said yet, and this stands for the answer
 abbrev pub nothing : {A : Type 0} → A → Asked A
-nothing a = record { x = 0; y = 0; size = BLOCK_4X4; a = a }
+nothing a = record { x = 0; y = 0; size = BLOCK_4X4; chroma = false; plane = 0; tx_type = DCT_DCT; a = a }
 
 abbrev pub block_size : Kind BlockSize
 block_size = choice size_of BLOCK_4X4
@@ -92,6 +105,75 @@ palette s = Step (Palette s.a)
 abbrev pub cdef : Asked ℕ → Item
 cdef s = Step (Cdef s.a)
 
+abbrev pub segment : Asked ℕ → Item
+segment s = Step (Segment s.a)
+
+-- a delta for each of the four filters
+abbrev pub delta_lf_rows : List (Row (Asked (List ℤ)))
+delta_lf_rows = required (codes "a") (exactly 4 (signed 8)) (λ s x. record s { a = x }) ∷ []
+
+abbrev pub delta_lf : Asked (List ℤ) → Item
+delta_lf s = Step (DeltaLf s.a)
+
+abbrev pub angle_delta_rows : List (Row (Asked ℤ))
+angle_delta_rows =
+    required (codes "chroma") truth (λ s x. record s { chroma = x })
+    ∷ required (codes "a") (signed 8) (λ s x. record s { a = x })
+    ∷ []
+
+abbrev pub angle_delta : Asked ℤ → Item
+angle_delta s = Step (AngleDelta s.chroma s.a)
+
+-- two numbers: that of the first chroma plane and that of the second
+abbrev pub cfl_alphas_rows : List (Row (Asked (List ℤ)))
+cfl_alphas_rows = required (codes "a") (exactly 2 (signed 16)) (λ s x. record s { a = x }) ∷ []
+
+abbrev pub of_alphas : List ℤ → Item
+of_alphas alphas = Step (CflAlphas (slice_index_or alphas 0 (pos 0), slice_index_or alphas 1 (pos 0)))
+
+abbrev pub cfl_alphas : Asked (List ℤ) → Item
+cfl_alphas s = of_alphas s.a
+
+abbrev pub size_of_transform : Kind TxSize
+size_of_transform = choice tx_size_of TX_4X4
+
+abbrev pub tx_intra_rows : List (Row (Asked TxSize))
+tx_intra_rows = required (codes "a") size_of_transform (λ s x. record s { a = x }) ∷ []
+
+abbrev pub tx_intra : Asked TxSize → Item
+tx_intra s = Step (TxIntra s.a)
+
+abbrev pub tx_inter : Asked Bool → Item
+tx_inter s = Step (TxInter s.a)
+
+-- the type of a transform, and the levels of its coefficients
+abbrev pub type_of_transform : Kind TxType
+type_of_transform = choice tx_type_of DCT_DCT
+
+abbrev pub levels : Kind (List ℤ)
+levels = list (signed 32)
+
+abbrev pub coeffs_rows : List (Row (Asked (List ℤ)))
+coeffs_rows =
+    required (codes "plane") (whole 64) (λ s x. record s { plane = x })
+    ∷ required (codes "x") (whole 64) (λ s x. record s { x = x })
+    ∷ required (codes "y") (whole 64) (λ s x. record s { y = x })
+    ∷ required (codes "tx_type") type_of_transform (λ s x. record s { tx_type = x })
+    ∷ required (codes "a") levels (λ s x. record s { a = x })
+    ∷ []
+
+abbrev pub coeffs : Asked (List ℤ) → Item
+coeffs s = Step (Coeffs s.plane s.x s.y s.tx_type s.a)
+
+abbrev pub lrf_rows : List (Row (Asked RestorationFilter))
+lrf_rows =
+    required (codes "plane") (whole 64) (λ s x. record s { plane = x })
+    ∷ required (codes "a") filter (λ s x. record s { a = x })
+    ∷ []
+
+abbrev pub lrf : Asked RestorationFilter → Item
+lrf s = Step (Lrf s.plane s.a)
+
 abbrev pub begin_rows : List (Row (Asked (Unit {0})))
 begin_rows =
     required (codes "x") (whole 64) (λ s x. record s { x = x })
@@ -109,6 +191,30 @@ made_of rows a make ms = then_of rows (closed make) (nothing a) ms
 abbrev pub end_of : Item → Left → Fitted Item
 end_of end ms = made_of {A = Unit {0}} [] tt (λ s. end) ms
 
+-- transforms, restoration and trials
+abbrev pub further_kinds : List (List ℕ × (Left → Fitted Item))
+further_kinds =
+    (codes "TxNote", end_of (Step TxNote))
+    ∷ (codes "TxIntra", made_of tx_intra_rows TX_4X4 tx_intra)
+    ∷ (codes "TxInter", made_of flag_rows false tx_inter)
+    ∷ (codes "Coeffs", made_of coeffs_rows [] coeffs)
+    ∷ (codes "Lrf", made_of lrf_rows filter.none lrf)
+    ∷ (codes "Begin", made_of begin_rows tt begin)
+    ∷ (codes "Keep", end_of Keep)
+    ∷ (codes "Abandon", end_of Abandon)
+    ∷ []
+
+-- what a mode leaves open, and filters
+abbrev pub tool_kinds : List (List ℕ × (Left → Fitted Item))
+tool_kinds =
+    (codes "AngleDelta", made_of angle_delta_rows (pos 0) angle_delta)
+    ∷ (codes "CflAlphas", made_of cfl_alphas_rows [] cfl_alphas)
+    ∷ (codes "FilterIntra", made_of flag_rows false filter_intra)
+    ∷ (codes "Palette", made_of flag_rows false palette)
+    ∷ (codes "Cdef", made_of byte_rows 0 cdef)
+    ∷ (codes "DeltaLf", made_of delta_lf_rows [] delta_lf)
+    ∷ further_kinds
+
 -- each kind by its name
 abbrev pub item_kinds : List (List ℕ × (Left → Fitted Item))
 item_kinds =
@@ -116,16 +222,11 @@ item_kinds =
     ∷ (codes "Block", made_of block_rows tt block)
     ∷ (codes "Partition", made_of partition_rows PARTITION_NONE parted)
     ∷ (codes "Skip", made_of flag_rows false skip)
+    ∷ (codes "Segment", made_of byte_rows 0 segment)
     ∷ (codes "IntraModeKf", made_of prediction_rows DC_PRED intra_mode_kf)
     ∷ (codes "IntraMode", made_of prediction_rows DC_PRED intra_mode)
     ∷ (codes "UvMode", made_of prediction_rows DC_PRED uv_mode)
-    ∷ (codes "FilterIntra", made_of flag_rows false filter_intra)
-    ∷ (codes "Palette", made_of flag_rows false palette)
-    ∷ (codes "Cdef", made_of byte_rows 0 cdef)
-    ∷ (codes "Begin", made_of begin_rows tt begin)
-    ∷ (codes "Keep", end_of Keep)
-    ∷ (codes "Abandon", end_of Abandon)
-    ∷ []
+    ∷ tool_kinds
 
 -- the members of the first kind of this name; where there is none, `op` is unfit
 abbrev pub of_op : List (List ℕ × (Left → Fitted Item)) → List ℕ → Left → Fitted Item

@@ -1,4 +1,5 @@
 pub mod FilmGrain
+pub mod Filter
 pub mod Fitted
 pub mod Frame
 pub mod FrameState
@@ -9,6 +10,7 @@ pub mod Refs
 pub mod Rows
 pub mod Said
 pub mod SaidView
+pub mod Scans
 pub mod Sequence
 pub mod Tables
 pub mod Taking

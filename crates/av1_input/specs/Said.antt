@@ -6,10 +6,12 @@ use Rattle.av1_frame.specs.declared.sequence.Sequence.{Sequence}
 use Rattle.av1_tile.specs.declared.unit.Item.{Item}
 use Rattle.av1_tile.specs.declared.unit.Via.{Via}
 use Rattle.av1_input.specs.declared.frame.Frame.{Frame}
+use Rattle.av1_input.specs.declared.scans.GivenScans.{GivenScans}
 use Rattle.av1_input.specs.declared.tables.GivenTables.{GivenTables}
 
 pub record Said : Type 0 where
   pub tables : GivenTables
+  pub scans : GivenScans
   pub sequence : Sequence
   pub frame : Frame
   pub refs : List (Option RefState)

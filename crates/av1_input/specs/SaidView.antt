@@ -5,6 +5,7 @@ use Rattle.av1_input.specs.declared.unit.UnitMembers.TheInside.{Inside}
 abbrev pub said_by : Inside → Said
 said_by m = record {
   tables = m.tables;
+  scans = m.scans;
   sequence = m.sequence;
   frame = m.frame;
   refs = m.refs;

@@ -16,6 +16,7 @@ use Rattle.av1_input.specs.Metadata.{metadata}
 use Rattle.av1_input.specs.Refs.{refs}
 use Rattle.av1_input.specs.Rows.{Row, object_of, optional, or, required}
 use Rattle.av1_input.specs.Said.{Said}
+use Rattle.av1_input.specs.Scans.{given_scans, scans_of}
 use Rattle.av1_input.specs.Sequence.{sequence}
 use Rattle.av1_input.specs.Tables.{given_tables, sets_of}
 use Rattle.av1_input.specs.WholeFrame.{frame}
@@ -29,6 +30,7 @@ via = word via_named Direct
 abbrev pub nothing_said : Said
 nothing_said = record {
   tables = given_tables.none;
+  scans = given_scans.none;
   sequence = still_sequence;
   frame = frame.none;
   refs = refs.none;
@@ -41,6 +43,7 @@ nothing_said = record {
 abbrev pub unit_rows : List (Row Said)
 unit_rows =
     optional (codes "tables") given_tables (λ s x. record s { tables = x })
+    ∷ optional (codes "scans") given_scans (λ s x. record s { scans = x })
     ∷ optional (codes "seq") sequence (λ s x. record s { sequence = x })
     ∷ required (codes "frame") frame (λ s x. record s { frame = x })
     ∷ optional (codes "refs") refs (λ s x. record s { refs = x })
@@ -68,6 +71,7 @@ abbrev pub input_said : Said → Input
 input_said s = record {
   given = record {
     tables = sets_of s.tables;
+    scans = scans_of s.scans;
     fi = record s.frame.fi { sequence = s.sequence };
     fs = s.frame.fs;
     refs = s.refs;

@@ -5,6 +5,8 @@ ghost use Rattle.av1_geometry.specs.FrameType.{frame_type_of, reference_mode_of,
 ghost use Rattle.av1_geometry.specs.BlockSize.{size_of};
 ghost use Rattle.av1_geometry.specs.PartitionType.{partition_of};
 ghost use Rattle.av1_geometry.specs.PredictionMode.{prediction_mode_of};
+ghost use Rattle.av1_geometry.specs.TxSize.{tx_size_of};
+ghost use Rattle.av1_geometry.specs.TxType.{tx_type_of};
 ghost use Rattle.av1_input.specs.Kinds.{choice};
 
 use crate::error::ShapeError;
@@ -13,7 +15,7 @@ use crate::numbers::usize_of;
 use crate::path::or_unfit;
 use av1_geometry::{
     BlockSize, ChromaSampling, FrameType, GlobalMVMode, PartitionType, PixelRange, PredictionMode,
-    ReferenceMode,
+    ReferenceMode, TxSize, TxType,
 };
 use serde_json::Value;
 use std::alloc::Global;
@@ -157,6 +159,42 @@ impl FromJson for PredictionMode {
     fn from_json(alloc: Global, value: Value) -> Result<Self, ShapeError> {
         match usize_of(&value) {
             Some(number) => or_unfit(alloc, PredictionMode::from_number(number)),
+            None => Err(ShapeError::BadShape(String::new(alloc))),
+        }
+    }
+}
+
+impl FromJson for TxSize {
+    ghost use Rattle.av1_geometry.specs.declared.tx_size.TxSize.TheVariants.{TX_4X4 as First};
+
+    ghost kind = { choice tx_size_of First };
+
+    fn none(_alloc: Global) -> Self {
+        TxSize::TX_4X4
+    }
+
+    #[tactic(auto, unfolding(crate::specs::Kinds::fit_choice))]
+    fn from_json(alloc: Global, value: Value) -> Result<Self, ShapeError> {
+        match usize_of(&value) {
+            Some(number) => or_unfit(alloc, TxSize::from_number(number)),
+            None => Err(ShapeError::BadShape(String::new(alloc))),
+        }
+    }
+}
+
+impl FromJson for TxType {
+    ghost use Rattle.av1_geometry.specs.declared.tx_type.TxType.TheVariants.{DCT_DCT as First};
+
+    ghost kind = { choice tx_type_of First };
+
+    fn none(_alloc: Global) -> Self {
+        TxType::DCT_DCT
+    }
+
+    #[tactic(auto, unfolding(crate::specs::Kinds::fit_choice))]
+    fn from_json(alloc: Global, value: Value) -> Result<Self, ShapeError> {
+        match usize_of(&value) {
+            Some(number) => or_unfit(alloc, TxType::from_number(number)),
             None => Err(ShapeError::BadShape(String::new(alloc))),
         }
     }

@@ -1,8 +1,13 @@
 // An item of a tile's script from a JSON value.
-ghost use Rattle.std.specs.Prelude.{[], ◌∷◌, false};
-ghost use Rattle.av1_input.specs.Item.{item, script, item_kinds, of_op, made_of, end_of, block, block_rows, parted, partition_rows, flag_rows, byte_rows, prediction_rows, skip, intra_mode_kf, intra_mode, uv_mode, filter_intra, palette, cdef, begin, begin_rows};
+ghost use Rattle.std.specs.Prelude.{◌≡◌, [], ◌∷◌, false, pos};
+ghost use Rattle.av1_input.specs.Item.{item, script, item_kinds, tool_kinds, further_kinds, of_op, made_of, end_of, block, block_rows, parted};
+ghost use Rattle.av1_input.specs.Item.{partition_rows, flag_rows, byte_rows, prediction_rows, skip, intra_mode_kf, intra_mode, uv_mode, filter_intra};
+ghost use Rattle.av1_input.specs.Item.{palette, cdef, begin, begin_rows, segment, delta_lf, delta_lf_rows, angle_delta, angle_delta_rows, cfl_alphas};
+ghost use Rattle.av1_input.specs.Item.{cfl_alphas_rows, of_alphas, tx_intra, tx_intra_rows, tx_inter, coeffs, coeffs_rows, levels, lrf, lrf_rows};
 ghost use Rattle.av1_geometry.specs.declared.prediction_mode.PredictionMode.TheVariants.{DC_PRED};
 ghost use Rattle.av1_geometry.specs.declared.partition_type.PartitionType.TheVariants.{PARTITION_NONE};
+ghost use Rattle.av1_geometry.specs.declared.tx_size.TxSize.TheVariants.{TX_4X4};
+ghost use Rattle.av1_input.specs.Filter.{filter};
 ghost use Rattle.av1_input.specs.Taking.{Finishes, left_of};
 
 use crate::error::ShapeError;
@@ -10,7 +15,7 @@ use crate::from_json::FromJson;
 use crate::list::read_list;
 use crate::members::Members;
 use av1_geometry::{BlockOffset, TileBlockOffset};
-use av1_tile::{Item, TileScript, TileStep};
+use av1_tile::{Item, Levels, TileScript, TileStep};
 use serde_json::Value;
 use std::alloc::Global;
 
@@ -45,6 +50,23 @@ impl FromJson for TileScript {
     }
 }
 
+impl FromJson for Levels {
+    ghost kind = { levels };
+
+    fn none(alloc: Global) -> Self {
+        Levels {
+            levels: Vec::new(alloc),
+        }
+    }
+
+    fn from_json(alloc: Global, value: Value) -> Result<Self, ShapeError> {
+        match read_list(alloc, value) {
+            Ok(levels) => Ok(Levels { levels }),
+            Err(error) => Err(error),
+        }
+    }
+}
+
 // The item of the kind of this name, by its other members.
 fn item_of(op: &str, members: Members) -> Result<Item, ShapeError>
     ensures { Finishes (of_op item_kinds op.now (left_of members)) members result }
@@ -54,12 +76,37 @@ fn item_of(op: &str, members: Members) -> Result<Item, ShapeError>
         "Block" => block(members),
         "Partition" => partition(members),
         "Skip" => skip(members),
+        "Segment" => segment(members),
         "IntraModeKf" => intra_mode_kf(members),
         "IntraMode" => intra_mode(members),
         "UvMode" => uv_mode(members),
+        _ => tool_item_of(op, members),
+    }
+}
+
+fn tool_item_of(op: &str, members: Members) -> Result<Item, ShapeError>
+    ensures { Finishes (of_op tool_kinds op.now (left_of members)) members result }
+{
+    match op {
+        "AngleDelta" => angle_delta(members),
+        "CflAlphas" => cfl_alphas(members),
         "FilterIntra" => filter_intra(members),
         "Palette" => palette(members),
         "Cdef" => cdef(members),
+        "DeltaLf" => delta_lf(members),
+        _ => further_item_of(op, members),
+    }
+}
+
+fn further_item_of(op: &str, members: Members) -> Result<Item, ShapeError>
+    ensures { Finishes (of_op further_kinds op.now (left_of members)) members result }
+{
+    match op {
+        "TxNote" => end(members, Item::Step(TileStep::TxNote)),
+        "TxIntra" => tx_intra(members),
+        "TxInter" => tx_inter(members),
+        "Coeffs" => coeffs(members),
+        "Lrf" => lrf(members),
         "Begin" => begin(members),
         "Keep" => end(members, Item::Keep),
         "Abandon" => end(members, Item::Abandon),
@@ -139,6 +186,81 @@ fn cdef(mut members: Members) -> Result<Item, ShapeError>
 {
     let answer = members.required("a");
     members.finish(Item::Step(TileStep::Cdef { answer }))
+}
+
+fn segment(mut members: Members) -> Result<Item, ShapeError>
+    ensures { Finishes (made_of byte_rows 0 segment (left_of members)) members result }
+{
+    let answer = members.required("a");
+    members.finish(Item::Step(TileStep::Segment { answer }))
+}
+
+fn delta_lf(mut members: Members) -> Result<Item, ShapeError>
+    ensures { Finishes (made_of delta_lf_rows [] delta_lf (left_of members)) members result }
+{
+    let answer = members.required("a");
+    members.finish(Item::Step(TileStep::DeltaLf { answer }))
+}
+
+fn angle_delta(mut members: Members) -> Result<Item, ShapeError>
+    ensures { Finishes (made_of angle_delta_rows (pos 0) angle_delta (left_of members)) members result }
+{
+    let step = TileStep::AngleDelta {
+        chroma: members.required("chroma"),
+        answer: members.required("a"),
+    };
+    members.finish(Item::Step(step))
+}
+
+fn cfl_alphas(mut members: Members) -> Result<Item, ShapeError>
+    ensures { Finishes (made_of cfl_alphas_rows [] cfl_alphas (left_of members)) members result }
+{
+    let alphas = members.required("a");
+    members.finish(of_alphas(alphas))
+}
+
+fn of_alphas(alphas: [i16; 2]) -> Item
+    ensures { result ≡ of_alphas alphas }
+{
+    let answer = (alphas[0], alphas[1]);
+    Item::Step(TileStep::CflAlphas { answer })
+}
+
+fn tx_intra(mut members: Members) -> Result<Item, ShapeError>
+    ensures { Finishes (made_of tx_intra_rows TX_4X4 tx_intra (left_of members)) members result }
+{
+    let answer = members.required("a");
+    members.finish(Item::Step(TileStep::TxIntra { answer }))
+}
+
+fn tx_inter(mut members: Members) -> Result<Item, ShapeError>
+    ensures { Finishes (made_of flag_rows false tx_inter (left_of members)) members result }
+{
+    let answer = members.required("a");
+    members.finish(Item::Step(TileStep::TxInter { answer }))
+}
+
+fn coeffs(mut members: Members) -> Result<Item, ShapeError>
+    ensures { Finishes (made_of coeffs_rows [] coeffs (left_of members)) members result }
+{
+    let step = TileStep::Coeffs {
+        plane: members.required("plane"),
+        x: members.required("x"),
+        y: members.required("y"),
+        tx_type: members.required("tx_type"),
+        answer: members.required("a"),
+    };
+    members.finish(Item::Step(step))
+}
+
+fn lrf(mut members: Members) -> Result<Item, ShapeError>
+    ensures { Finishes (made_of lrf_rows filter.none lrf (left_of members)) members result }
+{
+    let step = TileStep::Lrf {
+        plane: members.required("plane"),
+        answer: members.required("a"),
+    };
+    members.finish(Item::Step(step))
 }
 
 fn begin(mut members: Members) -> Result<Item, ShapeError>

@@ -4,6 +4,7 @@
 mod enums;
 mod error;
 mod film_grain;
+mod filter;
 mod frame;
 mod from_json;
 mod item;
@@ -13,6 +14,7 @@ mod metadata;
 mod numbers;
 mod path;
 mod reference;
+mod scans;
 mod sequence;
 mod state;
 mod tables;

@@ -147,3 +147,25 @@ pub(crate) fn read_list<T: FromJson>(alloc: Global, value: Value) -> Result<Vec<
         Err(error) => Err(error),
     }
 }
+
+/// A list of this length.
+#[tactic(auto, using(crate::proofs::Lists::right_len, crate::proofs::Lists::wrong_len, crate::proofs::Lists::no_list))]
+pub(crate) fn read_exactly<T: FromJson>(
+    alloc: Global,
+    value: Value,
+    len: usize,
+) -> Result<Vec<T>, ShapeError>
+    ensures ok { IfOk result (λ v. (exactly len T.kind).fit (view value) ≡ Fits v.items) }
+    ensures err { IfErr result (λ e. IsWhy e ((exactly len T.kind).fit (view value))) }
+{
+    match list_items(alloc, value) {
+        Ok(items) => {
+            if items.len() == len {
+                read_each(alloc, items)
+            } else {
+                Err(ShapeError::BadShape(String::new(alloc)))
+            }
+        }
+        Err(error) => Err(error),
+    }
+}

@@ -1,5 +1,5 @@
 // The members of an object, taken out one by one.
-ghost use Rattle.std.specs.Prelude.{◌≡◌, [], option_map, Some, None, IfOk, IfErr, string_bytes};
+ghost use Rattle.std.specs.Prelude.{◌≡◌, [], is_some, option_map, Some, None, IfOk, IfErr, string_bytes};
 ghost use Rattle.std.specs.Option.{option_map_or};
 ghost use Rattle.serde_json.specs.Find.{get_member};
 ghost use Rattle.serde_json.specs.View.{view, members_view};
@@ -58,6 +58,13 @@ impl Members {
         ensures error { self.new.error ≡ self.old.error }
     {
         self.left.remove(name)
+    }
+
+    /// Whether a member of this name is left.
+    pub fn has(&self, name: &str) -> bool
+        ensures { result ≡ is_some (get_member name.now (left_of self.now)) }
+    {
+        self.left.contains_key(name)
     }
 
     /// The member of this name, or `default` where there is none.

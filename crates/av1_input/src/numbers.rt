@@ -141,3 +141,22 @@ impl FromJson for i16 {
         or_unfit(alloc, i16_of(&value))
     }
 }
+
+fn i32_of(value: &Value) -> Option<i32>
+    ensures { result ≡ option_and_then (small_signed 32) (integer_of (view value.now)) }
+{
+    i32::try_from(value.as_i64()?).ok()
+}
+
+impl FromJson for i32 {
+    ghost kind = { signed 32 };
+
+    fn none(_alloc: Global) -> Self {
+        0
+    }
+
+    #[tactic(auto, unfolding(crate::specs::Kinds::fit_signed))]
+    fn from_json(alloc: Global, value: Value) -> Result<Self, ShapeError> {
+        or_unfit(alloc, i32_of(&value))
+    }
+}

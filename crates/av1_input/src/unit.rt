@@ -10,6 +10,7 @@ use crate::frame::Frame;
 use crate::from_json::FromJson;
 use crate::members::Members;
 use crate::path::or_unfit;
+use crate::scans::GivenScans;
 use crate::tables::GivenTables;
 use av1_frame::{FrameInvariants, Metadata, Refs, Sequence};
 use av1_geometry::OutOfMemory;
@@ -48,6 +49,7 @@ fn via_named(name: &str) -> Option<Via>
 #[derive(Drop)]
 struct UnitMembers {
     tables: GivenTables,
+    scans: GivenScans,
     sequence: Sequence,
     frame: Frame,
     refs: Refs,
@@ -73,6 +75,7 @@ fn unit_members(alloc: Global, value: Value) -> Result<UnitMembers, ShapeError>
     let mut members = Members::of(alloc, value);
     let said = UnitMembers {
         tables: members.optional("tables"),
+        scans: members.optional("scans"),
         sequence: members.optional("seq"),
         frame: members.required("frame"),
         refs: members.optional("refs"),
@@ -89,6 +92,7 @@ fn unit(alloc: Global, said: UnitMembers) -> Result<(Unit, Via), OutOfMemory>
 {
     let UnitMembers {
         tables,
+        scans,
         sequence,
         frame,
         refs,
@@ -100,6 +104,7 @@ fn unit(alloc: Global, said: UnitMembers) -> Result<(Unit, Via), OutOfMemory>
     let Frame { fi, fs } = frame;
     let unit = Unit {
         tables: tables.tables(alloc)?,
+        scans: scans.scans(alloc)?,
         fi: FrameInvariants { sequence, ..fi },
         fs,
         refs,

@@ -360,6 +360,57 @@ fits
 {"frame":{"width":8,"height":8},"tables":[[],[1],[2,3],[]],"tiles":[[]]}
 
 fits
+{"frame":{"width":8,"height":8},"scans":"diagonal","tiles":[[]]}
+
+at /scans
+{"frame":{"width":8,"height":8},"scans":"Diagonal","tiles":[[]]}
+
+at /scans
+{"frame":{"width":8,"height":8},"scans":null,"tiles":[[]]}
+
+at /scans
+{"frame":{"width":8,"height":8},"scans":{},"tiles":[[]]}
+
+at /scans
+{"frame":{"width":8,"height":8},"scans":[],"tiles":[[]]}
+
+at /scans
+{"frame":{"width":8,"height":8},"scans":[[[],[],[]],[[],[],[]],[[],[],[]],[[],[],[]],[[],[],[]],[[],[],[]],[[],[],[]],[[],[],[]],[[],[],[]],[[],[],[]],[[],[],[]],[[],[],[]],[[],[],[]],[[],[],[]],[[],[],[]],[[],[],[]],[[],[],[]],[[],[],[]]],"tiles":[[]]}
+
+at /scans
+{"frame":{"width":8,"height":8},"scans":[[[],[],[]],[[],[],[]],[[],[],[]],[[],[],[]],[[],[],[]],[[],[],[]],[[],[],[]],[[],[],[]],[[],[],[]],[[],[],[]],[[],[],[]],[[],[],[]],[[],[],[]],[[],[],[]],[[],[],[]],[[],[],[]],[[],[],[]],[[],[],[]],[[],[],[]],[[],[],[]]],"tiles":[[]]}
+
+fits
+{"frame":{"width":8,"height":8},"scans":[[[],[],[]],[[],[],[]],[[],[],[]],[[],[],[]],[[],[],[]],[[],[],[]],[[],[],[]],[[],[],[]],[[],[],[]],[[],[],[]],[[],[],[]],[[],[],[]],[[],[],[]],[[],[],[]],[[],[],[]],[[],[],[]],[[],[],[]],[[],[],[]],[[],[],[]]],"tiles":[[]]}
+
+at /scans/3
+{"frame":{"width":8,"height":8},"scans":[[[],[],[]],[[],[],[]],[[],[],[]],[[],[]],[[],[],[]],[[],[],[]],[[],[],[]],[[],[],[]],[[],[],[]],[[],[],[]],[[],[],[]],[[],[],[]],[[],[],[]],[[],[],[]],[[],[],[]],[[],[],[]],[[],[],[]],[[],[],[]],[[],[],[]]],"tiles":[[]]}
+
+at /scans/0
+{"frame":{"width":8,"height":8},"scans":[[[],[],[],[]],[[],[],[]],[[],[],[]],[[],[],[]],[[],[],[]],[[],[],[]],[[],[],[]],[[],[],[]],[[],[],[]],[[],[],[]],[[],[],[]],[[],[],[]],[[],[],[]],[[],[],[]],[[],[],[]],[[],[],[]],[[],[],[]],[[],[],[]],[[],[],[]]],"tiles":[[]]}
+
+at /scans/7/0
+{"frame":{"width":8,"height":8},"scans":[[[],[],[]],[[],[],[]],[[],[],[]],[[],[],[]],[[],[],[]],[[],[],[]],[[],[],[]],[0,[],[]],[],[[],[],[]],[[],[],[]],[[],[],[]],[[],[],[]],[[],[],[]],[[],[],[]],[[],[],[]],[[],[],[]],[[],[],[]],[[],[],[]]],"tiles":[[]]}
+
+at /scans/18/2/1
+{"frame":{"width":8,"height":8},"scans":[[[],[],[]],[[],[],[]],[[],[],[]],[[],[],[]],[[],[],[]],[[],[],[]],[[],[],[]],[[],[],[]],[[],[],[]],[[],[],[]],[[],[],[]],[[],[],[]],[[],[],[]],[[],[],[]],[[],[],[]],[[],[],[]],[[],[],[]],[[],[],[]],[[],[],[0,65536]]],"tiles":[[]]}
+
+fits
+{"frame":{"width":8,"height":8},"scans":[[[],[],[]],[[],[],[]],[[],[],[]],[[],[],[]],[[],[],[]],[[],[],[]],[[],[],[]],[[],[],[]],[[],[],[]],[[],[],[]],[[],[],[]],[[],[],[]],[[],[],[]],[[],[],[]],[[],[],[]],[[],[],[]],[[],[],[]],[[],[],[]],[[65535],[],[0,1]]],"tiles":[[]]}
+
+at /scans/1
+{"frame":{"width":8,"height":8},"scans":[[[],[],[]],"diagonal",[[],[],[]],[[],[],[]],[[],[],[]],[[],[],[]],[[],[],[]],[[],[],[]],[[],[],[]],[[],[],[]],[[],[],[]],[[],[],[]],[[],[],[]],[[],[],[]],[[],[],[]],[[],[],[]],[[],[],[]],[[],[],[]],[[],[],[]]],"tiles":[[]]}
+
+at /scans
+{"frame":{"width":8,"height":8},"scans":0,"seq":0,"tiles":[[]]}
+
+at /tables
+{"frame":{"width":8,"height":8},"scans":0,"tables":0,"tiles":[[]]}
+
+at /scans
+{"frame":{"width":8,"height":8},"scans":[],"frame":0,"tiles":[[]]}
+
+fits
 {"frame":{"width":8,"height":8},"tiles":[[],[]]}
 
 at /tiles/1/0/op
@@ -419,7 +470,7 @@ at /tiles/1/0/y
 at /tiles/1/0/size
 {"frame":{"width":8,"height":8},"tiles":[[],[{"op":"Begin","x":1,"y":1,"size":0}]]}
 
-at /tiles/1/2/op
+at /tiles/1/2/a
 {"frame":{"width":8,"height":8},"tiles":[[],[{"op":"Begin","x":1,"y":1},{"op":"Keep"},{"op":"Palette","a":0}]]}
 
 at /tiles/1/1/op
@@ -428,6 +479,10 @@ at /tiles/1/1/op
 /// A row is a text and the lines that say the values of all members; an empty line ends it.
 pub const UNITS: &str = r#"{"frame":{"width":8,"height":130},"tiles":[[]]}
 tables 5528 5528 5528 5528
+scans 19 16 16 16 64 64 64 256 256 256 1024 1024 1024 1024 1024 1024 32 32 32 32 32 32 128 128 128 128 128 128 512 512 512 512 512 512 1024 1024 1024 1024 1024 1024 64 64 64 64 64 64 256 256 256 256 256 256 512 512 512 512 512 512
+scan 0 1 4 2 5 8 3 6 9 12 7 10 13 11 14 15
+scan 0 1 4 2 5 8 3 6 9 12 7 10 13 11 14 15
+scan 0 1 4 2 5 8 3 6 9 12 7 10 13 11 14 15
 seq flags true true false false false false false false false false
 seq flags false false false false false false false false false
 seq bytes 0 0 8 0
@@ -476,8 +531,67 @@ delimiter true
 via direct
 script
 
+{"tiles":[],"scans":[[[0],[65535,1],[]],[[],[],[]],[[0,1,2,3,4,5,6,7,8,9,10,11,12,13,14,15,16],[7],[3,3,3]],[[],[],[]],[[],[],[]],[[],[],[]],[[],[],[]],[[],[],[]],[[],[],[]],[[],[],[]],[[],[],[]],[[],[],[]],[[],[],[]],[[],[],[]],[[],[],[]],[[],[],[]],[[],[],[]],[[],[],[]],[[],[],[16,15,14,13,12,11,10,9,8,7,6,5,4,3,2,1]]],"frame":{"width":8,"height":8}}
+tables 5528 5528 5528 5528
+scans 19 1 2 0 0 0 0 17 1 3 0 0 0 0 0 0 0 0 0 0 0 0 0 0 0 0 0 0 0 0 0 0 0 0 0 0 0 0 0 0 0 0 0 0 0 0 0 0 0 0 0 0 0 0 0 0 0 16
+scan 0
+scan 65535 1
+scan 7
+scan 3 3 3
+scan 16 15 14 13 12 11 10 9 8 7 6 5 4 3 2 1
+seq flags true true false false false false false false false false
+seq flags false false false false false false false false false
+seq bytes 0 0 8 0
+seq numbers 2 2 0
+time base 0 0
+seq enums 0 0
+sides 8 8 1 1 8 8
+frame enums 0 0 0 0 0 0 0 0 0
+frame flags true false false false true false false false false false
+frame flags false false false true false false false false false false false
+frame numbers 0 0 1 0 7 255 0
+frame bytes 100 3 0
+ref frames 0 0 0 0 0 0 0
+sign bias false false false false false false false
+dc 0 0 0
+ac 0 0 0
+y strengths 0 0 0 0 0 0 0 0
+uv strengths 0 0 0 0 0 0 0 0
+tile 0
+segment flags false false false
+features false false false false false false false false
+values 0 0 0 0 0 0 0 0
+features false false false false false false false false
+values 0 0 0 0 0 0 0 0
+features false false false false false false false false
+values 0 0 0 0 0 0 0 0
+features false false false false false false false false
+values 0 0 0 0 0 0 0 0
+features false false false false false false false false
+values 0 0 0 0 0 0 0 0
+features false false false false false false false false
+values 0 0 0 0 0 0 0 0
+features false false false false false false false false
+values 0 0 0 0 0 0 0 0
+features false false false false false false false false
+values 0 0 0 0 0 0 0 0
+last 0
+levels 0 0 0 0
+deblock bytes 0 0
+deblock flags false false false false
+ref deltas 0 0 0 0 0 0 0 0
+mode deltas 0 0
+restoration 0 0 0
+unit sizes 64 64 64
+delimiter true
+via direct
+
 {"tiles":[],"seq":{"mastering_display":{},"content_light":null},"metadata":[],"refs":[null,null,null,null,null,null,null,null],"frame":{"segmentation":{"enabled":true},"deblock":{},"restoration":[{},{"unit_size":7},{"lrf_type":3}],"width":65,"height":64,"render_height":9}}
 tables 5528 5528 5528 5528
+scans 19 16 16 16 64 64 64 256 256 256 1024 1024 1024 1024 1024 1024 32 32 32 32 32 32 128 128 128 128 128 128 512 512 512 512 512 512 1024 1024 1024 1024 1024 1024 64 64 64 64 64 64 256 256 256 256 256 256 512 512 512 512 512 512
+scan 0 1 4 2 5 8 3 6 9 12 7 10 13 11 14 15
+scan 0 1 4 2 5 8 3 6 9 12 7 10 13 11 14 15
+scan 0 1 4 2 5 8 3 6 9 12 7 10 13 11 14 15
 seq flags true true false false false false false false false false
 seq flags false false false false false false false false false
 seq bytes 0 0 8 0
@@ -534,6 +648,10 @@ set 65535 1
 set
 set 0 3 2
 set 7
+scans 19 16 16 16 64 64 64 256 256 256 1024 1024 1024 1024 1024 1024 32 32 32 32 32 32 128 128 128 128 128 128 512 512 512 512 512 512 1024 1024 1024 1024 1024 1024 64 64 64 64 64 64 256 256 256 256 256 256 512 512 512 512 512 512
+scan 0 1 4 2 5 8 3 6 9 12 7 10 13 11 14 15
+scan 0 1 4 2 5 8 3 6 9 12 7 10 13 11 14 15
+scan 0 1 4 2 5 8 3 6 9 12 7 10 13 11 14 15
 seq flags false false true false true true false true false true
 seq flags true false true true false false true true true
 seq bytes 68 32 14 224
@@ -627,6 +745,10 @@ set 65535 1
 set
 set 0 3 2
 set 7
+scans 19 16 16 16 64 64 64 256 256 256 1024 1024 1024 1024 1024 1024 32 32 32 32 32 32 128 128 128 128 128 128 512 512 512 512 512 512 1024 1024 1024 1024 1024 1024 64 64 64 64 64 64 256 256 256 256 256 256 512 512 512 512 512 512
+scan 0 1 4 2 5 8 3 6 9 12 7 10 13 11 14 15
+scan 0 1 4 2 5 8 3 6 9 12 7 10 13 11 14 15
+scan 0 1 4 2 5 8 3 6 9 12 7 10 13 11 14 15
 seq flags true true false false false true true true false false
 seq flags false false true false true true true true false
 seq bytes 28 86 93 212

@@ -1,4 +1,6 @@
 // Each row through `read_unit`.
+use crate::item_rows::ITEMS;
+use crate::items::items;
 use crate::rows::{PATHS, UNITS};
 use crate::units::unit;
 use av1_input::{ShapeError, read_unit};
@@ -43,6 +45,26 @@ fn each_member_has_its_value(rt: HostRuntime) -> Result<(), Fail> {
     for row in UNITS.split("\n\n") {
         let (text, want) = row.split_once('\n').unwrap_or(("", ""));
         assert_eq!(rt; told(alloc, text)?.as_str(), want);
+    }
+    Ok(())
+}
+
+fn item_told(alloc: Global, item: &str) -> Result<String, Fail> {
+    let before = r#"{"frame":{"width":8,"height":8},"tiles":[["#;
+    let after = "]]}";
+    let text = format!(in alloc; "{before}{item}{after}")?;
+    match read_unit(alloc, text.as_bytes()) {
+        Ok((found, _via)) => items(alloc, &found.scripts),
+        Err(error) => answer_of(alloc, error),
+    }
+}
+
+#[test]
+fn each_kind_of_item_is_read(rt: HostRuntime) -> Result<(), Fail> {
+    let alloc = rt.alloc();
+    for row in ITEMS.split("\n\n") {
+        let (want, item) = row.split_once('\n').unwrap_or(("", ""));
+        assert_eq!(rt; item_told(alloc, item)?.as_str(), want, "{item}");
     }
     Ok(())
 }

@@ -1,17 +1,20 @@
 // What a unit says.
 use crate::frames::frame;
+use crate::items::one_item;
 use crate::sequences::sequence;
 use crate::states::{references, state};
 use crate::told::Told;
 use av1_cdf::Tables;
+use av1_coef::{Scan, Scans};
 use av1_frame::{Metadata, T35};
-use av1_tile::{Item, TileScript, TileStep, Unit, Via};
+use av1_tile::{TileScript, Unit, Via};
 use std::alloc::Global;
 use std::test::Fail;
 
 pub fn unit(alloc: Global, unit: &Unit, via: Via) -> Result<String, Fail> {
     let mut told = Told::new(alloc);
     tables(&mut told, &unit.tables)?;
+    scans(&mut told, &unit.scans)?;
     headers(&mut told, unit)?;
     metadata(&mut told, &unit.metadata)?;
     ways(&mut told, unit.delimiter, via)?;
@@ -28,6 +31,29 @@ fn tables(told: &mut Told, tables: &Tables) -> Result<(), Fail> {
     for set in &tables.sets {
         if set.len() < 10 {
             told.line("set", set.as_slice())?;
+        }
+    }
+    Ok(())
+}
+
+// How long each scan is, and the positions of those that are short.
+fn scans(told: &mut Told, scans: &Scans) -> Result<(), Fail> {
+    told.line("scans", &[scans.scans.len()])?;
+    for of_size in &scans.scans {
+        for scan in of_size {
+            told.values(&[scan.positions.len()])?;
+        }
+    }
+    for of_size in &scans.scans {
+        short_scans(told, of_size)?;
+    }
+    Ok(())
+}
+
+fn short_scans(told: &mut Told, scans: &[Scan]) -> Result<(), Fail> {
+    for scan in scans {
+        if !scan.positions.is_empty() && scan.positions.len() < 17 {
+            told.line("scan", scan.positions.as_slice())?;
         }
     }
     Ok(())
@@ -72,16 +98,4 @@ fn scripts(told: &mut Told, scripts: &[TileScript]) -> Result<(), Fail> {
         }
     }
     Ok(())
-}
-
-fn one_item(told: &mut Told, item: &Item) -> Result<(), Fail> {
-    match item {
-        Item::Step(TileStep::Block { x, y, size }) => {
-            told.line("Block", &[*x, *y, size.number()])
-        }
-        Item::Step(TileStep::Skip { answer }) => told.line("Skip", &[*answer]),
-        Item::Begin(place) => told.line("Begin", &[place.0.x, place.0.y]),
-        Item::Keep => told.line::<u16>("Keep", &[]),
-        Item::Abandon => told.line::<u16>("Abandon", &[]),
-    }
 }

@@ -2,7 +2,7 @@
 use Rattle.std.specs.Prelude.{◌≡◌, ℕ, List, [], ◌++◌, codes, decimal, string_bytes}
 use Rattle.av1_geometry.specs.declared.error.Rule.{Rule}
 use Rattle.av1_tile.specs.declared.error.Place.{Place}
-use Rattle.av1_tile.specs.declared.error.Place.TheVariants.{Tables, Sequence, Frame, Metadata, Scripts, Item, Obu}
+use Rattle.av1_tile.specs.declared.error.Place.TheVariants.{Tables, Scans, Sequence, Frame, Metadata, Scripts, Item, Obu}
 use Rattle.av1_bits.specs.declared.transfer.ReadError.{ReadError}
 use Rattle.av1_bits.specs.declared.transfer.ReadError.TheVariants as reading
 use Rattle.av1_tile.specs.declared.error.UnitError.{UnitError}
@@ -29,6 +29,7 @@ number_of OutOfMemory = 10
 -- a place by its name and its numbers
 unfoldable pub place_text : Place → List ℕ
 place_text Tables = codes "tables"
+place_text Scans = codes "scans"
 place_text Sequence = codes "sequence"
 place_text Frame = codes "frame"
 place_text (Metadata index) = codes "metadata " ++ decimal index

@@ -124,6 +124,7 @@ fn place_text(alloc: Global, place: Place) -> Result<String, OutOfMemory>
 {
     match place {
         Place::Tables => Ok(String::from_str(alloc, "tables")?),
+        Place::Scans => Ok(String::from_str(alloc, "scans")?),
         Place::Sequence => Ok(String::from_str(alloc, "sequence")?),
         Place::Frame => Ok(String::from_str(alloc, "frame")?),
         Place::Metadata { index } => Ok(format!(in alloc; "metadata {index}")?),

@@ -1,8 +1,12 @@
 // Worked units on an 8x8 frame, and larger ones.
+ghost use Rattle.std.specs.Prelude.{◌≡◌};
+ghost use Rattle.av1_tile.specs.Given.{broken_scan_rule};
+
 use crate::reader::PlainReader;
 use av1_bits::MemSink;
 use av1_cdf::{Tables, check_tables};
-use av1_ec::{Writer, WriterCounter};
+use av1_coef::{Scans, check_scans, diagonal};
+use av1_ec::{Writer, WriterCounter, WriterEncoder};
 use av1_geometry::{BlockOffset, BlockSize, ChromaSampling, OutOfMemory, Rule, TileBlockOffset};
 use av1_unit::{
     ContentLight, FrameInvariants, FrameState, Item, Metadata, Place, Report, Sequence, StepFault,
@@ -10,6 +14,7 @@ use av1_unit::{
     check_sequence, check_step, count_tile, law_of_steps, law_of_tile_counts, unit_bytes,
     write_unit,
 };
+use av1_uses::cost_of_skip;
 use std::alloc::{AllocError, Global};
 use std::process::Abort;
 use std::test::Fail;
@@ -32,11 +37,15 @@ fn begin(x: usize, y: usize) -> Item {
 }
 
 // A still picture without chroma, in one tile.
-fn unit(alloc: Global, side: usize, items: &[Item]) -> Result<Unit, Fail> {
+fn unit(alloc: Global, side: usize, items: Vec<Item>) -> Result<Unit, Fail> {
     let mut unit = grey(alloc, side, side)?;
-    let items = items.to_vec(alloc)?;
     unit.scripts.push(TileScript { items })?;
     Ok(unit)
+}
+
+// Scans that break no rule.
+fn scans(alloc: Global) -> Result<Scans, Fail> {
+    Ok(diagonal(alloc)?)
 }
 
 // The same of any sides, without scripts.
@@ -45,6 +54,7 @@ fn grey(alloc: Global, width: usize, height: usize) -> Result<Unit, Fail> {
     sequence.chroma_sampling = ChromaSampling::Cs400;
     Ok(Unit {
         tables: Tables::uniform(alloc)?,
+        scans: scans(alloc)?,
         fi: FrameInvariants::new(sequence, width, height),
         fs: FrameState::default(),
         refs: [None; 8],
@@ -72,12 +82,12 @@ fn sent(alloc: Global, out: &mut MemSink, unit: &Unit) -> Result<Report, UnitErr
 }
 
 // The steps that are not given up, by the lengths of what stood before each trial.
-fn surviving(alloc: Global, items: &[Item]) -> Result<Vec<TileStep>, AllocError> {
+fn surviving(alloc: Global, items: &[Item]) -> Result<Vec<&TileStep>, AllocError> {
     let mut steps = Vec::new(alloc);
     let mut before = Vec::new(alloc);
     for item in items.iter() {
         match item {
-            Item::Step(step) => steps.push(*step)?,
+            Item::Step(step) => steps.push(step)?,
             Item::Begin(_) => before.push(steps.len())?,
             Item::Keep => {
                 before.pop();
@@ -125,7 +135,7 @@ fn trials_may_lie_ten_thousand_deep(rt: HostRuntime) -> Result<(), Fail> {
     for _ in 0..DEPTH {
         items.push(Item::Keep)?;
     }
-    let unit = unit(alloc, 8, &items)?;
+    let unit = unit(alloc, 8, items)?;
     let Ok((_, report)) = written(alloc, &unit) else {
         return Err("not written".into());
     };
@@ -148,22 +158,36 @@ fn step<W: Writer>(tile: &mut TileState, w: &mut W, step: &TileStep) -> Result<b
     Ok(true)
 }
 
-// The state that a tile of an empty 8x8 frame begins with.
-fn first_state(alloc: Global) -> Result<TileState, Fail> {
-    let unit = unit(alloc, 8, &[])?;
-    if check_tables(&unit.tables).is_some() || check_sequence(&unit.fi.sequence).is_some() {
+// The first rule that the scans of a unit break.
+fn broken_scan_rule(unit: &Unit) -> Option<Rule>
+    ensures { result ≡ broken_scan_rule unit.now.scans }
+{
+    check_scans(&unit.scans)
+}
+
+// The state that the first tile of a unit begins with, where tables, scans and headers break no rule.
+fn first_state<'u>(alloc: Global, unit: &'u Unit) -> Result<TileState<'u>, Fail> {
+    if check_tables(&unit.tables).is_some() {
+        return Err("a broken rule".into());
+    }
+    if broken_scan_rule(unit).is_some() {
+        return Err("a broken rule".into());
+    }
+    if check_sequence(&unit.fi.sequence).is_some() {
         return Err("a broken rule".into());
     }
     if check_frame(&unit.fi, &unit.fs, &unit.refs).is_some() {
         return Err("a broken rule".into());
     }
     law_of_tile_counts();
-    Ok(TileState::new(alloc, &unit, 0)?)
+    Ok(TileState::new(alloc, unit, 0)?)
 }
 
 #[test]
 fn steps_are_checked_one_by_one(rt: HostRuntime) -> Result<(), Fail> {
-    let tile = first_state(rt.alloc())?;
+    let alloc = rt.alloc();
+    let unit = unit(alloc, 8, Vec::new(alloc))?;
+    let tile = first_state(alloc, &unit)?;
     let block = TileStep::Block {
         x: 0,
         y: 0,
@@ -173,28 +197,50 @@ fn steps_are_checked_one_by_one(rt: HostRuntime) -> Result<(), Fail> {
     let too_long = Some(StepFault::TooLong);
     let broken = Some(StepFault::Broken(Rule(64)));
     for (bits, step, want) in [
-        (268_435_457, block, too_long),
-        (268_435_456, block, None),
-        (1, skip, broken),
+        (268_435_457, &block, too_long),
+        (268_435_456, &block, None),
+        (1, &skip, broken),
     ] {
-        assert_eq!(rt; check_step(&tile, bits, &step), want);
+        assert_eq!(rt; check_step(&tile, bits, step), want);
     }
     Ok(())
 }
 
 #[test]
 fn steps_are_written_one_by_one(rt: HostRuntime) -> Result<(), Fail> {
-    let mut tile = first_state(rt.alloc())?;
+    let alloc = rt.alloc();
+    let unit = unit(alloc, 8, Vec::new(alloc))?;
+    let mut tile = first_state(alloc, &unit)?;
     let mut counter = WriterCounter::new();
     let block = TileStep::Block {
         x: 0,
         y: 0,
         size: BlockSize::BLOCK_8X8,
     };
-    for each in [block, TileStep::Skip { answer: true }] {
-        assert!(rt; step(&mut tile, &mut counter, &each)?);
+    let skip = TileStep::Skip { answer: true };
+    for each in [&block, &skip] {
+        assert!(rt; step(&mut tile, &mut counter, each)?);
     }
     assert_eq!(rt; counter.tell(), 2);
+    Ok(())
+}
+
+#[test]
+fn a_flag_is_tried_and_leaves_no_trace(rt: HostRuntime) -> Result<(), Fail> {
+    let alloc = rt.alloc();
+    let unit = unit(alloc, 8, Vec::new(alloc))?;
+    let mut tile = first_state(alloc, &unit)?;
+    let mut w = WriterEncoder::new(alloc);
+    let block = TileStep::Block {
+        x: 0,
+        y: 0,
+        size: BlockSize::BLOCK_8X8,
+    };
+    assert!(rt; step(&mut tile, &mut w, &block)?);
+    assert_eq!(rt; cost_of_skip(alloc, &mut tile, &mut w, false)?, Some(9));
+    let skip = TileStep::Skip { answer: true };
+    assert!(rt; step(&mut tile, &mut w, &skip)?);
+    assert_eq!(rt; w.done()?.as_slice(), [0xc0].as_slice());
     Ok(())
 }
 
@@ -210,12 +256,12 @@ fn counted(alloc: Global, unit: &Unit) -> Result<Result<TileReport, UnitError>, 
 fn a_tile_is_counted(rt: HostRuntime) -> Result<(), Fail> {
     let alloc = rt.alloc();
     let b8 = block(0, 0, BlockSize::BLOCK_8X8);
-    let valid = unit(alloc, 8, &[b8, skip(false)])?;
+    let valid = unit(alloc, 8, vec![in alloc; b8, skip(false)]?)?;
     match counted(alloc, &valid)? {
         Ok(told) => assert_eq!(rt; (told.bytes, told.bits), (1, 3)),
         Err(_) => return Err("not counted".into()),
     }
-    let refused = unit(alloc, 8, &[skip(true)])?;
+    let refused = unit(alloc, 8, vec![in alloc; skip(true)]?)?;
     let want = UnitError::Refused {
         place: Place::Item { tile: 0, item: 0 },
         rule: Rule(64),
@@ -235,7 +281,7 @@ fn a_script_may_be_long(rt: HostRuntime) -> Result<(), Fail> {
     for n in 0..FLAGS {
         items.push(skip(n % 3 == 0))?;
     }
-    let unit = unit(alloc, 8, &items)?;
+    let unit = unit(alloc, 8, items)?;
     let Ok((_, report)) = written(alloc, &unit) else {
         return Err("not written".into());
     };
@@ -249,7 +295,7 @@ fn a_script_may_be_long(rt: HostRuntime) -> Result<(), Fail> {
 #[test]
 fn sides_of_64_are_written_in_six_bits(rt: HostRuntime) -> Result<(), Fail> {
     let alloc = rt.alloc();
-    let unit = unit(alloc, 64, &[])?;
+    let unit = unit(alloc, 64, Vec::new(alloc))?;
     let Ok((bytes, _)) = written(alloc, &unit) else {
         return Err("not written".into());
     };
@@ -296,7 +342,7 @@ fn tiles_are_led_by_their_sizes(rt: HostRuntime) -> Result<(), Fail> {
 #[test]
 fn a_unit_may_have_no_delimiter(rt: HostRuntime) -> Result<(), Fail> {
     let alloc = rt.alloc();
-    let mut unit = unit(alloc, 8, &[])?;
+    let mut unit = unit(alloc, 8, Vec::new(alloc))?;
     unit.delimiter = false;
     let want = "0a051808bf01103206164000000080 1 1";
     assert_eq!(rt; told(alloc, &unit)?.as_str(), want);
@@ -306,7 +352,7 @@ fn a_unit_may_have_no_delimiter(rt: HostRuntime) -> Result<(), Fail> {
 #[test]
 fn metadata_come_before_the_frame(rt: HostRuntime) -> Result<(), Fail> {
     let alloc = rt.alloc();
-    let mut unit = unit(alloc, 8, &[])?;
+    let mut unit = unit(alloc, 8, Vec::new(alloc))?;
     unit.metadata.push(Metadata::Cll)?;
     let want = "Refused { place: Metadata { index: 0 }, rule: Rule(50) }";
     assert_eq!(rt; told(alloc, &unit)?.as_str(), want);
@@ -322,7 +368,7 @@ fn metadata_come_before_the_frame(rt: HostRuntime) -> Result<(), Fail> {
 #[test]
 fn a_frame_that_does_not_learn_is_refused(rt: HostRuntime) -> Result<(), Fail> {
     let alloc = rt.alloc();
-    let mut unit = unit(alloc, 8, &[])?;
+    let mut unit = unit(alloc, 8, Vec::new(alloc))?;
     unit.fi.disable_cdf_update = true;
     let want = "Refused { place: Frame, rule: Rule(22) }";
     assert_eq!(rt; told(alloc, &unit)?.as_str(), want);
@@ -348,7 +394,7 @@ fn there_may_be_64_by_64_tiles(rt: HostRuntime) -> Result<(), Fail> {
 
 // An 8x8 frame with no items, whose sets have this number at a place of the sets from one on.
 fn tabled(alloc: Global, from: usize, place: usize, number: u16) -> Result<Unit, Fail> {
-    let mut unit = unit(alloc, 8, &[])?;
+    let mut unit = unit(alloc, 8, Vec::new(alloc))?;
     for set in unit.tables.sets.iter_mut().skip(from) {
         if let Some(old) = set.get_mut(place) {
             *old = number;
@@ -393,7 +439,7 @@ fn tables_are_looked_at_first(rt: HostRuntime) -> Result<(), Fail> {
 #[test]
 fn short_tables_are_looked_at_first(rt: HostRuntime) -> Result<(), Fail> {
     let alloc = rt.alloc();
-    let mut short = unit(alloc, 0, &[])?;
+    let mut short = unit(alloc, 0, Vec::new(alloc))?;
     if let Some(set) = short.tables.sets.last_mut() {
         set.truncate(5527);
     }
@@ -402,6 +448,19 @@ fn short_tables_are_looked_at_first(rt: HostRuntime) -> Result<(), Fail> {
         rule: Rule(1),
     };
     assert_eq!(rt; written(alloc, &short).err(), Some(want));
+    Ok(())
+}
+
+#[test]
+fn scans_are_looked_at_behind_the_tables(rt: HostRuntime) -> Result<(), Fail> {
+    let alloc = rt.alloc();
+    let mut few = unit(alloc, 0, Vec::new(alloc))?;
+    few.scans.scans.truncate(18);
+    let want = UnitError::Refused {
+        place: Place::Scans,
+        rule: Rule(4),
+    };
+    assert_eq!(rt; written(alloc, &few).err(), Some(want));
     Ok(())
 }
 
@@ -417,7 +476,7 @@ fn a_plain_reader_takes_each_flag_back(rt: HostRuntime) -> Result<(), Fail> {
             items.push(block(*x, *y, BlockSize::BLOCK_4X4))?;
             items.push(skip(flags >> n & 1 == 1))?;
         }
-        let unit = unit(alloc, 8, &items)?;
+        let unit = unit(alloc, 8, items)?;
         let Ok((bytes, report)) = written(alloc, &unit) else {
             return Err("not written".into());
         };
@@ -432,7 +491,7 @@ fn a_plain_reader_takes_each_flag_back(rt: HostRuntime) -> Result<(), Fail> {
 #[test]
 fn a_sink_that_fails_holds_a_beginning(rt: HostRuntime) -> Result<(), Fail> {
     let alloc = rt.alloc();
-    let unit = unit(alloc, 8, &[])?;
+    let unit = unit(alloc, 8, Vec::new(alloc))?;
     let mut out = MemSink::new(alloc, 100, true, vec![in alloc; 3]?)?;
     match sent(alloc, &mut out, &unit) {
         Ok(_) => return Err("sent".into()),
@@ -541,7 +600,7 @@ fn answer(
     rt: &impl Abort,
     alloc: Global,
     side: usize,
-    items: &[Item],
+    items: Vec<Item>,
     via: Via,
 ) -> Result<String, Fail> {
     let unit = unit(alloc, side, items)?;
@@ -570,11 +629,12 @@ fn rows_are_answered(rt: HostRuntime) -> Result<(), Fail> {
     for row in ROWS.lines() {
         let mut parts = row.split(';');
         let side = number(parts.next())?;
-        let items = items(alloc, parts.next().unwrap_or(""))?;
+        let script = parts.next().unwrap_or("");
         let want = parts.next().unwrap_or("");
         for via in [Via::Direct, Via::Recorded] {
+            let items = items(alloc, script)?;
             assert_eq!(rt;
-                answer(&rt, alloc, side, &items, via)?.as_str(),
+                answer(&rt, alloc, side, items, via)?.as_str(),
                 want,
                 "{row}"
             );

@@ -33,7 +33,7 @@ implied true b e h = h
 implied false b e h = cc
 
 -- the rules of what is coded behind the tiles hold
-coding_hold : (t : Tile) → IsGiven t.given → AllHold (coding_rules t.given.fi t.given.fs)
+pub coding_hold : (t : Tile) → IsGiven t.given → AllHold (coding_rules t.given.fi t.given.fs)
 unfolding tile_rules
 coding_hold t k =
     let fi = t.given.fi in
@@ -62,7 +62,7 @@ cdef_is_kind t b k h =
     record {
       reads = kind_reads (cdef_kind t b) (λ i. i < 2 ^ t.given.fi.cdef_bits) 3 (omega arith) (λ i g r. below i _ (all_hold ((cdef_kind t b).answering i) (none_is _ r)).0)
           (λ g. literal_reads t.given.fi.cdef_bits 3 (few g));
-      fit = λ i g. ((h, λ x fine. record { mode = fine.mode; segment = fine.segment }), (tt, tt));
+      fit = λ i g. ((h, λ x fine. record { mode = fine.mode; segment = fine.segment }, λ c is x e. e), (tt, tt));
       at_place = λ i. (refl, (tt, tt));
     }
 

@@ -15,11 +15,13 @@ use Rattle.av1_tile.specs.declared.trial.TrialMark.{TrialMark}
 use Rattle.av1_tile.specs.Coder.{IsNew, StandsAt}
 use Rattle.av1_tile.specs.Given.{Given, IsGiven, tile_count, tile_cols, tile_rows}
 use Rattle.av1_tile.specs.Kept.{IsFine, IsKept}
+use Rattle.av1_tile.specs.Marks.{AreMarks}
 use Rattle.av1_tile.specs.Sound.{IsSound}
 use Rattle.av1_tile.specs.State.{tile_of}
 use Rattle.av1_tile.specs.Tile.{fresh}
 use Rattle.av1_tile.specs.TileBytes.{started, begin, numbers_of}
 use Rattle.av1_tile.proofs.Coded.{coded_none}
+use Rattle.av1_tile.proofs.Planes.{first_fit}
 
 planes_fresh : (p : ℕ) → p < 3 → length {A = ℕ} (get_or (replicate 3 (replicate 1024 0)) p []) ≡ 1024
 planes_fresh p h = ap (λ (l : List ℕ). length l) (get_or-replicate 3 p (replicate 1024 0) [] h) ∙ length-replicate {A = ℕ} 1024 0
@@ -33,7 +35,10 @@ fresh_kept g k numbers given number =
       sides = record { cols = refl; rows = refl; corner = (refl, refl); all = length-replicate n DEFAULT; frame = (refl, refl) };
       edges = record { above_partition = length-replicate {A = ℕ} 512 0; above_tx = length-replicate {A = ℕ} 1024 0; above_planes = length-replicate {A = List ℕ} 3 (replicate 1024 0); above_coeff = planes_fresh };
       current = λ b e. cc;
+      coded = λ b e. cc;
+      entered = λ b e. cc;
       fine = λ i h. subst (IsFine g.fi) (sym (get_or-replicate n i DEFAULT DEFAULT (subst (λ m. i < m) (length-replicate n DEFAULT) h))) (record { mode = λ intra. omega arith; segment = omega arith });
+      planes = first_fit g.fs;
     }
 
 pub fresh_sound : (g : Given) (k : ℕ) → IsGiven g → k < tile_count g.fi → AreCdfs (numbers_of g) → IsSound (begin g k)
@@ -45,4 +50,4 @@ module _ {W : Type 0} (writer : Ghosts W) (start : Position) where
       → IsSound (begin g k) → tile_of tile ≡ (begin g k).context → IsNew start → writer.position w ≡ start → marks ≡ [] → places ≡ [] → costs ≡ []
       → StandsAt writer start tile w marks places costs (started (begin g k))
   fresh_stands g k tile w marks places costs sound t new p m b c =
-      record { place = record { x = 0; y = 0 }; tile_is = t; coded = coded_none start (writer.position w) new p; marks_are = m; begun_are = b; costs_are = c; sound = sound; few = omega arith }
+      record { tile_is = t; coded = coded_none start (writer.position w) new p; marks_stand = subst (λ (l : List TrialMark). AreMarks writer w tile l) (sym m) tt; marks_are = m; begun_are = b; costs_are = c; sound = sound; few = omega arith }

@@ -1,7 +1,6 @@
 -- What the steps of intra blocks bring.
 use Rattle.std.proofs.Common.{◌≡◌, ℕ, ◌+◌, ◌-◌, ◌*◌, ◌<◌, ◌≤◌, ◌==◌, List, [], ◌∷◌, Bool, true, false, IsTrue, Option, Some, None, length, refl, sym, ap, subst, ◌∙◌, arith, nat_lt, is_none, inl, inr}
 use Rattle.std.proofs.lemmas.Bool.Decides.{nat_tests}
-use Rattle.std.proofs.lemmas.Nat.{mul-add-lt}
 use Rattle.av1_blocks.specs.declared.block_context.BlockContext.{BlockContext}
 use Rattle.av1_blocks.specs.Grid.{Grid, block_at, over}
 use Rattle.av1_cdf.specs.Distribution.{HasSymbols}
@@ -15,20 +14,16 @@ use Rattle.av1_tile.specs.IntraSteps.{mode_at, is_intra, gets_mode, intra_mode_k
 use Rattle.av1_tile.specs.Kept.{HasSides, IsBlock, IsFine, IsKept}
 use Rattle.av1_tile.specs.Kind.{holds, rules_of, IsKind}
 use Rattle.av1_tile.specs.Tile.{Tile, CurrentBlock, place_of_block, size_of_block, with_numbers}
+use Rattle.av1_tile.proofs.Effects.{place_there}
 use Rattle.av1_tile.proofs.KindLaws.{kind_reads, none_is, asking_holds, answering_holds}
 use Rattle.av1_tile.proofs.Places.{all_hold}
 
-is_less : (n m : ℕ) → nat_lt n m ≡ true → n < m
+pub is_less : (n m : ℕ) → nat_lt n m ≡ true → n < m
 is_less n m h = grind (arith, nat_tests)
 
 -- each block of the grid is fine
 pub fine_at : (t : Tile) → IsKept t → (x y : ℕ) → x < t.bc.blocks.cols → y < t.bc.blocks.rows → IsFine t.given.fi (block_at t.bc.blocks x y)
-fine_at t k x y column row =
-    let g = t.bc.blocks in
-    let across : g.x + x < g.frame.frame_cols = omega (arith, column, k.sides.corner.0, k.sides.frame.0) in
-    let down : g.y + y < g.frame.frame_rows = omega (arith, row, k.sides.corner.1, k.sides.frame.1) in
-    let size : g.frame.frame_cols * g.frame.frame_rows ≡ length g.frame.blocks = ap (λ c. c * g.frame.frame_rows) k.sides.frame.0 ∙ ap (λ r. g.cols * r) k.sides.frame.1 ∙ sym k.sides.all in
-    k.fine ((g.y + y) * g.frame.frame_cols + (g.x + x)) (subst (λ n. (g.y + y) * g.frame.frame_cols + (g.x + x) < n) size (mul-add-lt (g.y + y) g.frame.frame_cols (g.x + x) g.frame.frame_rows down across))
+fine_at t k x y column row = k.fine _ (place_there t k.sides x y column row).1
 
 -- in an intra frame the blocks above and to the left are intra blocks
 pub intra_neighbours : (t : Tile) (b : CurrentBlock) → IsKept t → IsBlock t.bc.blocks.cols t.bc.blocks.rows (place_of_block b) (size_of_block b) → t.given.fi.intra_only ≡ true → HasIntraNeighbours t.bc.blocks (place_of_block b)
@@ -54,7 +49,7 @@ pub intra_mode_kf_is_kind : (t : Tile) (b : CurrentBlock) → IsBlock t.bc.block
 intra_mode_kf_is_kind t b s = record {
   reads = kind_reads (intra_mode_kf_kind t b) (λ m. prediction_mode_number m < 13) 1 (omega arith) (λ m h g. is_less _ _ (all_hold ((intra_mode_kf_kind t b).answering m) (none_is _ g)).0)
       (λ h. intra_mode_kf_reads t.bc.blocks (place_of_block b));
-  fit = λ m h. let low = (intra_mode_kf_allowed t b m (none_is _ h)).1 in ((s, λ x fine. record { mode = λ intra. low; segment = fine.segment }), tt);
+  fit = λ m h. let low = (intra_mode_kf_allowed t b m (none_is _ h)).1 in ((s, λ x fine. record { mode = λ intra. low; segment = fine.segment }, λ c is x e. e), tt);
   at_place = λ m. (refl, tt);
 }
 
@@ -66,7 +61,7 @@ pub intra_mode_is_kind : (t : Tile) (b : CurrentBlock) → IsBlock t.bc.blocks.c
 intra_mode_is_kind t b s = record {
   reads = kind_reads (intra_mode_kind t b) (λ m. prediction_mode_number m < 13) 1 (omega arith) (λ m h g. is_less _ _ (all_hold ((intra_mode_kind t b).answering m) (none_is _ g)).0)
       (λ h. intra_mode_reads (size_of_block b));
-  fit = λ m h. let low = intra_mode_allowed t b m (none_is _ h) in ((s, λ x fine. record { mode = λ intra. low; segment = fine.segment }), tt);
+  fit = λ m h. let low = intra_mode_allowed t b m (none_is _ h) in ((s, λ x fine. record { mode = λ intra. low; segment = fine.segment }, λ c is x e. e), tt);
   at_place = λ m. (refl, tt);
 }
 

@@ -14,10 +14,9 @@ use Rattle.av1_geometry.specs.declared.block_offset.TileBlockOffset.{TileBlockOf
 use Rattle.av1_geometry.specs.declared.chroma_sampling.ChromaSampling.{ChromaSampling}
 use Rattle.av1_geometry.specs.declared.superblock_offset.SuperBlockOffset.{SuperBlockOffset}
 use Rattle.av1_tile.specs.declared.trial.TrialMark.{TrialMark}
-use Rattle.av1_tile.specs.Coder.{back_to, IsOfTile}
+use Rattle.av1_tile.specs.Marks.{back_to, IsOfTile}
 use Rattle.av1_tile.specs.Kept.{IsKept}
-use Rattle.av1_tile.specs.Step.{is_inside}
-use Rattle.av1_tile.specs.Tile.{Tile, CurrentBlock, sampling}
+use Rattle.av1_tile.specs.Tile.{Tile, CurrentBlock, is_inside, sampling}
 use Rattle.av1_tile.proofs.Places.{both}
 use Rattle.av1_tile.proofs.StepLaws.{is_below, is_paired}
 

@@ -1,5 +1,5 @@
 -- What holds of every kind of step of the current block.
-use Rattle.std.proofs.Common.{◌≡◌, List, true, Option, Some, None, is_some, option_map, refl, sym, ap, subst}
+use Rattle.std.proofs.Common.{◌≡◌, List, [], true, Option, Some, None, is_some, option_map, refl, sym, ap, subst, ◌∙◌}
 use Rattle.av1_geometry.specs.Rules.{first_broken}
 use Rattle.av1_tile.specs.declared.unit.TileStep.{TileStep}
 use Rattle.av1_tile.specs.Effect.{changed_by_all}
@@ -16,6 +16,11 @@ module _ {A : Type 0} (step : A → TileStep) (f : CurrentBlock → Kind A) wher
   pub of_current_place : (o : Option CurrentBlock) → ((b : CurrentBlock) → (f b).place ≡ Some (place_of_block b)) → option_map place_of_block o ≡ (of_current o step f).place
   of_current_place None h = refl
   of_current_place (Some b) h = sym (h b)
+
+  -- where it has no place, there is no current block, and it changes nothing
+  pub current_bare : (o : Option CurrentBlock) → ((b : CurrentBlock) → (f b).place ≡ Some (place_of_block b)) → (a : A) → (of_current o step f).place ≡ None → (of_current o step f).effects a ≡ []
+  current_bare None h a e = refl
+  current_bare (Some b) h a e = let none : Some (place_of_block b) ≡ None = sym (h b) ∙ e in cc
 
   -- where a block is the current one, it is that of the block
   pub current_tree : (o : Option CurrentBlock) (b : CurrentBlock) → o ≡ Some b → steps (f b) ≡ steps (of_current o step f)
@@ -44,3 +49,8 @@ module _ {A : Type 0} (step : A → TileStep) (f : CurrentBlock → Kind A) wher
     pub of_current_places : (o : Option CurrentBlock) → ((b : CurrentBlock) → (f b).place ≡ (g b).place) → (of_current o step f).place ≡ (of_current o step g).place
     of_current_places None h = refl
     of_current_places (Some b) h = h b
+
+-- a current block that is there
+pub some_block : (o : Option CurrentBlock) → is_some o ≡ true → (b : CurrentBlock) × (o ≡ Some b)
+some_block None h = absurd cc
+some_block (Some b) h = (b, refl)

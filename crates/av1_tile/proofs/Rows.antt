@@ -1,10 +1,11 @@
 -- Worked rows, computed from the definitions alone.
-use Rattle.std.proofs.Common.{◌≡◌, ℕ, List, [], ◌∷◌, ◌++◌, replicate, ◌*◌, true, false, refl, Option, Some, None, map, option_map}
+use Rattle.std.proofs.Common.{◌≡◌, ℕ, ℤ, pos, negsuc, List, [], ◌∷◌, ◌++◌, replicate, ◌*◌, true, false, refl, Option, Some, None, map, option_map}
 use Rattle.std.specs.Int.Count.{count_leading_zeros}
 use Rattle.av1_geometry.specs.declared.block_size.BlockSize.TheVariants.{BLOCK_4X4, BLOCK_8X8}
+use Rattle.av1_geometry.specs.declared.tx_size.TxSize.TheVariants.{TX_4X4, TX_8X8}
 use Rattle.av1_tile.specs.declared.unit.Item.{Item}
 use Rattle.av1_tile.specs.declared.unit.Item.TheVariants.{Step, Begin, Keep, Abandon}
-use Rattle.av1_tile.specs.declared.unit.TileStep.TheVariants.{Block, Skip}
+use Rattle.av1_tile.specs.declared.unit.TileStep.TheVariants.{Block, Skip, Lrf, Segment, DeltaLf, AngleDelta, CflAlphas, TxNote, TxIntra, TxInter}
 use Rattle.av1_tile.specs.declared.unit.Unit.{Unit}
 use Rattle.av1_tile.specs.declared.error.UnitError.TheVariants.{Refused, BadScript}
 use Rattle.av1_tile.specs.declared.error.Place.TheVariants.{Tables, Item as ItemPlace}
@@ -12,17 +13,19 @@ use Rattle.av1_tile.specs.declared.error.UnitError.{UnitError}
 use Rattle.av1_tile.specs.declared.report.TrialCost.{TrialCost}
 use Rattle.av1_model.specs.Bits.{bits_of}
 use Rattle.av1_model.specs.Eighths.{log_digits}
-use Rattle.av1_model.specs.Codes.{leb128}
+use Rattle.av1_ec.specs.CodeTrees.{literal_tree, subexp_tree}
+use Rattle.av1_model.specs.Codes.{leb128, subexp}
 use Rattle.av1_model.specs.Interval.{whole, final_bytes, bits}
 use Rattle.av1_cdf.specs.Context.{written_between}
 use Rattle.av1_cdf.specs.Layout.{slot, layout, fields, vector_fields, component_fields}
 use Rattle.av1_blocks.specs.Places.{changed}
-use Rattle.av1_frame.specs.Defaults.{key_frame, plain_state, still_sequence}
+use Rattle.av1_frame.specs.Defaults.{key_frame, plain_state, still_sequence, unrestored}
 use Rattle.av1_frame.specs.Tiling.{tiling, least_log2}
 use Rattle.av1_geometry.specs.declared.chroma_sampling.ChromaSampling.TheVariants.{Cs400}
+use Rattle.av1_syntax.specs.declared.restoration.RestorationFilter.TheVariants.{None as Unfiltered, Sgrproj}
 use Rattle.av1_tile.specs.Given.{Given}
 use Rattle.av1_model.specs.Reading.{Coding}
-use Rattle.av1_tile.specs.Tile.{Tile, fresh}
+use Rattle.av1_tile.specs.Tile.{Tile, fresh, has_chroma_size}
 use Rattle.av1_tile.specs.TileBytes.{started}
 use Rattle.av1_tile.specs.Step.{question_of}
 use Rattle.av1_tile.specs.Script.{after_all, read_steps}
@@ -36,6 +39,7 @@ numbers = replicate 410 0 ++ 16384 ∷ 0 ∷ 16384 ∷ 0 ∷ 16384 ∷ 0 ∷ []
 given : ℕ → Given
 given side = record {
   tables = [];
+  scans = [];
   fi = key_frame (record still_sequence { chroma_sampling = Cs400 }) (4 * side) (4 * side);
   fs = plain_state;
   refs = [];
@@ -78,32 +82,32 @@ unfolding given key_frame still_sequence tiling changed tile at_first numbers sl
 empty_tile = refl
 
 skipped_tile : tile skipped ≡ 0xc0 ∷ []
-unfolding given key_frame still_sequence tiling changed tile at_first numbers slot layout fields vector_fields component_fields written_between skipped count_leading_zeros
+unfolding given key_frame still_sequence tiling changed tile at_first numbers slot layout fields vector_fields component_fields written_between skipped count_leading_zeros has_chroma_size
 skipped_tile = refl
 
 skipped_bits : tile_bits skipped ≡ 2
-unfolding given key_frame still_sequence tiling changed tile_bits at_first numbers slot layout fields vector_fields component_fields written_between skipped count_leading_zeros
+unfolding given key_frame still_sequence tiling changed tile_bits at_first numbers slot layout fields vector_fields component_fields written_between skipped count_leading_zeros has_chroma_size
 skipped_bits = refl
 
 coded_tile : tile coded ≡ 0x20 ∷ []
-unfolding given key_frame still_sequence tiling changed tile at_first numbers slot layout fields vector_fields component_fields written_between coded count_leading_zeros
+unfolding given key_frame still_sequence tiling changed tile at_first numbers slot layout fields vector_fields component_fields written_between coded count_leading_zeros has_chroma_size
 coded_tile = refl
 
 coded_bits : tile_bits coded ≡ 3
-unfolding given key_frame still_sequence tiling changed tile_bits at_first numbers slot layout fields vector_fields component_fields written_between coded count_leading_zeros
+unfolding given key_frame still_sequence tiling changed tile_bits at_first numbers slot layout fields vector_fields component_fields written_between coded count_leading_zeros has_chroma_size
 coded_bits = refl
 
 -- the second flag is coded by another distribution, which has not learned yet
 two_tile : tile two_blocks ≡ 0xa0 ∷ []
-unfolding given key_frame still_sequence tiling changed tile at_first numbers slot layout fields vector_fields component_fields written_between two_blocks count_leading_zeros
+unfolding given key_frame still_sequence tiling changed tile at_first numbers slot layout fields vector_fields component_fields written_between two_blocks count_leading_zeros has_chroma_size
 two_tile = refl
 
 two_bits : tile_bits two_blocks ≡ 3
-unfolding given key_frame still_sequence tiling changed tile_bits at_first numbers slot layout fields vector_fields component_fields written_between two_blocks count_leading_zeros
+unfolding given key_frame still_sequence tiling changed tile_bits at_first numbers slot layout fields vector_fields component_fields written_between two_blocks count_leading_zeros has_chroma_size
 two_bits = refl
 
 none_refused : wrong 2 two_blocks ≡ None
-unfolding given key_frame still_sequence tiling changed wrong at_first numbers slot layout fields vector_fields component_fields written_between two_blocks count_leading_zeros
+unfolding given key_frame still_sequence tiling changed wrong at_first numbers slot layout fields vector_fields component_fields written_between two_blocks count_leading_zeros has_chroma_size
 none_refused = refl
 
 no_block_refused : wrong 2 no_block ≡ Some (Refused (ItemPlace 0 0) record { 0 = 64 })
@@ -114,9 +118,26 @@ outside_refused : wrong 2 (Step (Block 0 2 BLOCK_4X4) ∷ []) ≡ Some (Refused 
 unfolding given key_frame still_sequence tiling changed wrong at_first
 outside_refused = refl
 
+-- an angle of a mode without direction, factors where chroma is not predicted from luma, and what the frame does not have
+flat_refused : wrong 2 (Step (Block 0 0 BLOCK_8X8) ∷ Step (AngleDelta false (pos 1)) ∷ []) ≡ Some (Refused (ItemPlace 0 1) record { 0 = 72 })
+unfolding given key_frame still_sequence tiling changed wrong at_first has_chroma_size
+flat_refused = refl
+
+no_factors_refused : wrong 2 (Step (Block 0 0 BLOCK_8X8) ∷ Step (CflAlphas (pos 1, pos 0)) ∷ []) ≡ Some (Refused (ItemPlace 0 1) record { 0 = 73 })
+unfolding given key_frame still_sequence tiling changed wrong at_first has_chroma_size
+no_factors_refused = refl
+
+no_segments_refused : wrong 2 (Step (Block 0 0 BLOCK_8X8) ∷ Step (Segment 0) ∷ []) ≡ Some (Refused (ItemPlace 0 1) record { 0 = 67 })
+unfolding given key_frame still_sequence tiling changed wrong at_first has_chroma_size
+no_segments_refused = refl
+
+no_deltas_refused : wrong 2 (Step (Block 0 0 BLOCK_8X8) ∷ Step (DeltaLf (pos 0 ∷ pos 0 ∷ pos 0 ∷ pos 0 ∷ [])) ∷ []) ≡ Some (Refused (ItemPlace 0 1) record { 0 = 69 })
+unfolding given key_frame still_sequence tiling changed wrong at_first has_chroma_size
+no_deltas_refused = refl
+
 -- a reader that is led by the questions takes the flags
 read_two : option_map (λ r. r.0) (read_steps (map question_of (surviving two_blocks)) (0xa0 ∷ []) (at_first 2)) ≡ Some (Block 0 0 BLOCK_4X4 ∷ Skip true ∷ Block 1 0 BLOCK_4X4 ∷ Skip false ∷ [])
-unfolding given key_frame still_sequence tiling changed at_first numbers slot layout fields vector_fields component_fields written_between two_blocks count_leading_zeros
+unfolding given key_frame still_sequence tiling changed at_first numbers slot layout fields vector_fields component_fields written_between two_blocks count_leading_zeros has_chroma_size
 read_two = refl
 
 -- trials
@@ -127,19 +148,19 @@ thrice : List Item
 thrice = Step (Block 0 0 BLOCK_8X8) ∷ Begin record { 0 = record { x = 0; y = 0 } } ∷ Step (Skip true) ∷ Step (Skip true) ∷ Step (Skip true) ∷ Abandon ∷ []
 
 abandoned_tile : tile abandoned ≡ 0xc0 ∷ []
-unfolding given key_frame still_sequence tiling changed tile at_first numbers slot layout fields vector_fields component_fields written_between abandoned count_leading_zeros
+unfolding given key_frame still_sequence tiling changed tile at_first numbers slot layout fields vector_fields component_fields written_between abandoned count_leading_zeros has_chroma_size
 abandoned_tile = refl
 
 abandoned_cost : costs abandoned ≡ record { tile = 0; item = 1; eighths = 9; kept = false } ∷ []
-unfolding given key_frame still_sequence tiling changed costs at_first numbers slot layout fields vector_fields component_fields written_between abandoned count_leading_zeros log_digits
+unfolding given key_frame still_sequence tiling changed costs at_first numbers slot layout fields vector_fields component_fields written_between abandoned count_leading_zeros log_digits has_chroma_size
 abandoned_cost = refl
 
 thrice_tile : tile thrice ≡ 0x80 ∷ []
-unfolding given key_frame still_sequence tiling changed tile at_first numbers slot layout fields vector_fields component_fields written_between thrice count_leading_zeros
+unfolding given key_frame still_sequence tiling changed tile at_first numbers slot layout fields vector_fields component_fields written_between thrice count_leading_zeros has_chroma_size
 thrice_tile = refl
 
 thrice_cost : costs thrice ≡ record { tile = 0; item = 1; eighths = 22; kept = false } ∷ []
-unfolding given key_frame still_sequence tiling changed costs at_first numbers slot layout fields vector_fields component_fields written_between thrice count_leading_zeros log_digits
+unfolding given key_frame still_sequence tiling changed costs at_first numbers slot layout fields vector_fields component_fields written_between thrice count_leading_zeros log_digits has_chroma_size
 thrice_cost = refl
 
 kept_twice : wrong 2 (Begin record { 0 = record { x = 0; y = 0 } } ∷ Keep ∷ Keep ∷ []) ≡ Some (BadScript 0 2)
@@ -155,5 +176,84 @@ unfolding given key_frame still_sequence tiling changed wrong at_first
 strayed = refl
 
 outside_in_trial : wrong 2 (Step (Block 0 0 BLOCK_8X8) ∷ Begin record { 0 = record { x = 0; y = 0 } } ∷ Step (Block 9 0 BLOCK_8X8) ∷ Abandon ∷ []) ≡ Some (Refused (ItemPlace 0 2) record { 0 = 60 })
-unfolding given key_frame still_sequence tiling changed wrong at_first numbers slot layout fields vector_fields component_fields written_between count_leading_zeros
+unfolding given key_frame still_sequence tiling changed wrong at_first numbers slot layout fields vector_fields component_fields written_between count_leading_zeros has_chroma_size
 outside_in_trial = refl
+
+-- transforms
+noted : List Item
+noted = Step (Block 0 0 BLOCK_8X8) ∷ Step TxNote ∷ []
+
+noted_left : (after_all (at_first 2) (surviving noted)).context.bc.left_tx_context ≡ 8 ∷ 8 ∷ replicate 14 0
+unfolding given key_frame still_sequence tiling changed at_first numbers slot layout fields vector_fields component_fields written_between noted count_leading_zeros
+noted_left = refl
+
+unnoted : wrong 2 (Step TxNote ∷ []) ≡ Some (Refused (ItemPlace 0 0) record { 0 = 64 })
+unfolding given key_frame still_sequence tiling changed wrong at_first
+unnoted = refl
+
+-- the frame does not leave the sizes of transforms to its blocks
+not_chosen : wrong 2 (Step (Block 0 0 BLOCK_8X8) ∷ Step (TxIntra TX_8X8) ∷ []) ≡ Some (Refused (ItemPlace 0 1) record { 0 = 76 })
+unfolding given key_frame still_sequence tiling changed wrong at_first numbers slot layout fields vector_fields component_fields written_between count_leading_zeros has_chroma_size
+not_chosen = refl
+
+not_inter : wrong 2 (Step (Block 0 0 BLOCK_8X8) ∷ Step (TxInter true) ∷ []) ≡ Some (Refused (ItemPlace 0 1) record { 0 = 65 })
+unfolding given key_frame still_sequence tiling changed wrong at_first numbers slot layout fields vector_fields component_fields written_between count_leading_zeros has_chroma_size
+not_inter = refl
+
+-- so much of a context as the depth of 8x8 needs, and a frame that leaves it to its blocks
+depth_numbers : List ℕ
+depth_numbers = replicate 592 0 ++ 16384 ∷ 0 ∷ 16384 ∷ 0 ∷ 16384 ∷ 0 ∷ []
+
+choosing : Given
+choosing = record (given 2) { fi = record (given 2).fi { tx_mode_select = true } }
+
+halved_once : List Item
+halved_once = Step (Block 0 0 BLOCK_8X8) ∷ Step (TxIntra TX_4X4) ∷ []
+
+halved_tile : final_bytes (after_all (record { interval = whole; context = fresh choosing 0 depth_numbers }) (surviving halved_once)).interval ≡ 0xc0 ∷ []
+unfolding given key_frame still_sequence tiling changed choosing depth_numbers slot layout fields vector_fields component_fields written_between halved_once count_leading_zeros has_chroma_size
+halved_tile = refl
+
+halved_left : (after_all (record { interval = whole; context = fresh choosing 0 depth_numbers }) (surviving halved_once)).context.bc.left_tx_context ≡ 4 ∷ 4 ∷ replicate 14 0
+unfolding given key_frame still_sequence tiling changed choosing depth_numbers slot layout fields vector_fields component_fields written_between halved_once count_leading_zeros
+halved_left = refl
+
+-- the same picture with self-guided filters, where none is as likely as one
+restored : Given
+restored = record (given 2) { fs = record plain_state { restoration = record { planes = record unrestored { lrf_type = 3 } ∷ unrestored ∷ unrestored ∷ [] } } }
+
+at_restored : Coding Tile
+at_restored = record { interval = whole; context = fresh restored 0 (replicate 300 0 ++ 16384 ∷ 0 ∷ []) }
+
+-- set 14 has no second pass
+filtered : ℤ → List Item
+filtered second = Step (Lrf 0 (Sgrproj 14 (negsuc 31 ∷ second ∷ []))) ∷ []
+
+unfiltered : List Item
+unfiltered = Step (Lrf 0 Unfiltered) ∷ []
+
+unfiltered_tile : final_bytes (after_all at_restored (surviving unfiltered)).interval ≡ 0x20 ∷ []
+unfolding given key_frame still_sequence tiling changed restored at_restored unfiltered slot layout fields vector_fields component_fields written_between count_leading_zeros
+unfiltered_tile = refl
+
+unfiltered_bits : bits (after_all at_restored (surviving unfiltered)).interval ≡ 3
+unfolding given key_frame still_sequence tiling changed restored at_restored unfiltered slot layout fields vector_fields component_fields written_between count_leading_zeros
+unfiltered_bits = refl
+
+filtered_tile : final_bytes (after_all at_restored (surviving (filtered (pos 95)))).interval ≡ 0xf0 ∷ 0x20 ∷ []
+unfolding given key_frame still_sequence tiling changed restored at_restored filtered slot layout fields vector_fields component_fields written_between bits_of literal_tree subexp subexp_tree count_leading_zeros
+filtered_tile = refl
+
+filtered_bits : bits (after_all at_restored (surviving (filtered (pos 95)))).interval ≡ 11
+unfolding given key_frame still_sequence tiling changed restored at_restored filtered slot layout fields vector_fields component_fields written_between bits_of literal_tree subexp subexp_tree count_leading_zeros
+filtered_bits = refl
+
+-- where a set has no pass its weight is fixed
+weight_refused : first_wrong 0 (started at_restored) (filtered (pos 31)) ≡ Some (Refused (ItemPlace 0 0) record { 0 = 86 })
+unfolding given key_frame still_sequence tiling changed restored at_restored filtered
+weight_refused = refl
+
+-- a filter in a trial is out of place, whatever its rules
+filter_in_trial : first_wrong 0 (started at_restored) (Begin record { 0 = record { x = 0; y = 0 } } ∷ filtered (pos 31)) ≡ Some (BadScript 0 1)
+unfolding given key_frame still_sequence tiling changed restored at_restored filtered
+filter_in_trial = refl

@@ -1,5 +1,5 @@
 -- All kinds of step. What each brings is one line for each of the first lemmas; the others hold of every kind.
-use Rattle.std.proofs.Common.{◌≤◌, ◌&&◌, nat_lt, nat_le, ◌==◌, option_map, ◌≡◌, ℕ, ◌+◌, ◌-◌, ◌*◌, ◌/◌, ◌%◌, min, ◌<◌, ◌^◌, Bool, true, false, IsTrue, List, [], ◌∷◌, ◌++◌, Option, Some, None, is_some, is_none, length, refl, sym, ◌∙◌, ap, subst, arith, if◌then◌else◌}
+use Rattle.std.proofs.Common.{zero, suc, ◌≤◌, ◌&&◌, nat_lt, nat_le, ◌==◌, option_map, ◌≡◌, ℕ, ◌+◌, ◌-◌, ◌*◌, ◌/◌, ◌%◌, min, ◌<◌, ◌^◌, Bool, true, false, IsTrue, List, [], ◌∷◌, ◌++◌, Option, Some, None, is_some, is_none, length, refl, sym, ◌∙◌, ap, subst, arith, if◌then◌else◌}
 use Rattle.std.proofs.lemmas.Bool.Decides.{nat_tests}
 use Rattle.std.specs.Option.{ForSome, option_map_or}
 use Rattle.av1_blocks.specs.declared.block.Block.{Block as GridBlock}
@@ -27,22 +27,32 @@ use Rattle.av1_syntax.specs.Partition.{IsParted, has_cols, has_rows, is_allowed,
 use Rattle.av1_syntax.proofs.Elements.{partition_reads, skip_reads}
 use Rattle.av1_tile.specs.declared.error.StepFault.TheVariants.{TooLong, Broken}
 use Rattle.av1_tile.specs.declared.unit.TileStep.{TileStep}
-use Rattle.av1_tile.specs.declared.unit.TileStep.TheVariants.{RowStart, Block, Partition, Skip, IntraModeKf, UvMode, IntraMode, Cdef, FilterIntra, Palette}
-use Rattle.av1_tile.specs.Effect.{Effect, Over, Parted, Unfilled}
+use Rattle.av1_tile.specs.declared.unit.TileStep.TheVariants.{RowStart, Block, Partition, Skip, IntraModeKf, UvMode, IntraMode, Cdef, FilterIntra, Palette, Lrf, Segment, DeltaLf, AngleDelta, CflAlphas, TxNote, TxIntra, TxInter, Coeffs}
+use Rattle.av1_tile.specs.Effect.{Effect, Over, Parted, Unfilled, changed_by_all}
+use Rattle.av1_tile.specs.AngleSteps.{angle_delta_kind, cfl_alphas_kind}
+use Rattle.av1_tile.specs.DeltaSteps.{segment_kind, delta_lf_kind}
+use Rattle.av1_tile.specs.CoeffSteps.{chroma_coeffs_kind, luma_coeffs_kind}
 use Rattle.av1_tile.specs.FilterSteps.{cdef_kind, filter_intra_kind, palette_kind}
 use Rattle.av1_tile.specs.Given.{tile_cols, tile_rows}
 use Rattle.av1_tile.specs.IntraSteps.{intra_mode_kf_kind, uv_mode_kind, intra_mode_kind}
 use Rattle.av1_tile.specs.Kept.{IsBlock, IsFine, IsKept, AllFit, AllAt}
 use Rattle.av1_tile.specs.Kind.{Kind, answers, holds, rules_of, of_none, of_current, IsKind}
+use Rattle.av1_tile.specs.RestorationSteps.{lrf_kind}
 use Rattle.av1_tile.specs.Script.{tile_after, tokens_of}
-use Rattle.av1_tile.specs.Step.{is_inside, is_aligned, is_coded_size, is_parted_size, is_split_on, new_block, parted, row_start_kind, block_kind, partition_kind, skip_kind, step_fault, most_bits, Question, OfRowStart, OfBlock, OfPartition, OfSkip, OfIntraModeKf, OfUvMode, OfIntraMode, Answer, question_of, answer_of, kind_of, rules, syntax_of, symbols_of, effects_of, entered, OfCdef, OfFilterIntra, OfPalette}
-use Rattle.av1_tile.specs.Tile.{Tile, CurrentBlock, place_of_block, size_of_block, with_numbers, sampling}
-use Rattle.av1_tile.proofs.OfCurrent.{of_current_named, of_current_rules, of_current_places}
-use Rattle.av1_tile.proofs.Effects.{all_kept, all_same, numbers_kept}
+use Rattle.av1_tile.specs.Step.{is_aligned, is_coded_size, is_parted_size, is_split_on, parted, row_start_kind, block_kind, partition_kind, skip_kind, step_fault, most_bits, Question, OfRowStart, OfBlock, OfPartition, OfSkip, OfIntraModeKf, OfUvMode, OfIntraMode, Answer, question_of, answer_of, kind_of, rules, syntax_of, symbols_of, effects_of, entered, is_untried, OfCdef, OfFilterIntra, OfPalette, OfLrf, OfSegment, OfDeltaLf, OfAngleDelta, OfCflAlphas, OfTxNote, OfTxIntra, OfTxInter, OfLumaCoeffs, OfChromaCoeffs}
+use Rattle.av1_tile.specs.Tile.{Tile, CurrentBlock, place_of_block, size_of_block, with_numbers, sampling, has_chroma_size, is_inside}
+use Rattle.av1_tile.proofs.OfCurrent.{of_current_named, of_current_rules, of_current_places, current_bare}
+use Rattle.av1_tile.proofs.Effects.{all_kept, all_same, all_still, numbers_kept}
+use Rattle.av1_tile.proofs.AngleSteps.{angle_delta_is_kind, cfl_alphas_is_kind}
+use Rattle.av1_tile.proofs.DeltaSteps.{segment_is_kind, delta_lf_is_kind}
+use Rattle.av1_tile.specs.TransformSteps.{note, tx_note_kind, tx_intra_kind, tx_inter_kind}
+use Rattle.av1_tile.proofs.CoeffSteps.{chroma_coeffs_is_kind, luma_coeffs_is_kind}
 use Rattle.av1_tile.proofs.IntraSteps.{intra_mode_kf_is_kind, uv_mode_is_kind, intra_mode_is_kind}
 use Rattle.av1_tile.proofs.FilterSteps.{cdef_is_kind, filter_intra_is_kind, palette_is_kind}
+use Rattle.av1_tile.proofs.RestorationSteps.{lrf_is_kind}
 use Rattle.av1_tile.proofs.KindLaws.{kind_reads, none_is, asking_holds, answering_holds, leads_step, step_apart, steps_ask}
 use Rattle.av1_tile.proofs.Places.{all_hold, both, is_at_most, is_cut}
+use Rattle.av1_tile.proofs.TransformSteps.{tx_note_is_kind, tx_intra_is_kind, tx_inter_is_kind}
 
 -- a step's rules hold
 abbrev pub IsAllowed : TileStep → Tile → Type 0
@@ -72,15 +82,17 @@ block_fits bo size t h =
     let aligned = both _ _ coded.1 in
     record { column = is_below _ _ inside.0; row = is_below _ _ inside.1; width = is_at_most _ _ sides.0; height = is_at_most _ _ sides.1; aligned = (is_same _ _ aligned.0, is_same _ _ aligned.1) }
 
--- what a block gets is fine
-new_fine : (fi : FrameInvariants) (size : BlockSize) → IsFine fi (new_block size)
-new_fine fi size = record { mode = λ h. omega arith; segment = omega arith }
+-- and its chroma has a size
+block_coded : (bo : BlockOffset) (size : BlockSize) (t : Tile) → holds (rules_of (block_kind bo size t) tt) ≡ true → has_chroma_size (sampling t) size ≡ true
+block_coded bo size t h =
+    let all = all_hold (rules_of (block_kind bo size t) tt) (none_is _ h) in
+    (both _ _ (both _ _ all.1.0).0).1
 
 block_is_kind : (bo : BlockOffset) (size : BlockSize) (t : Tile) → IsKind t (block_kind bo size t)
 block_is_kind bo size t = record {
   reads = kind_reads (block_kind bo size t) (λ a. a ≡ tt) 0 (omega arith) (λ a h g. refl) (λ h. known_reads HasSymbols tt);
-  fit = λ a h. let b = block_fits bo size t h in ((b, λ x fine. new_fine t.given.fi size), (b, tt));
-  at_place = λ a. (refl, (tt, tt));
+  fit = λ a h. ((block_fits bo size t h, block_coded bo size t h), tt);
+  at_place = λ a. (refl, tt);
 }
 
 even_columns : (span side m : ℕ) → min (16 * span) (2 * side - m * (16 * span)) % 2 ≡ 0
@@ -129,10 +141,10 @@ pub parted_block : (t : Tile) (bo : BlockOffset) (size : BlockSize) → IsParted
 parted_block t bo size p =
     record { column = p.column; row = p.row; width = p.most; height = omega (arith, p.square, p.most); aligned = (p.aligned.0, subst (λ n. bo.y % 2 ^ (n - 2) ≡ 0) p.square p.aligned.1) }
 
-parted_fit : (fi : FrameInvariants) (cols rows : ℕ) (bo : BlockOffset) (size : BlockSize) (on : Bool) (o : Option BlockSize) → IsBlock cols rows bo size → AllFit fi cols rows (if on then [] else option_map_or (λ subsize. Parted bo size subsize ∷ []) o [])
-parted_fit fi cols rows bo size true o b = tt
-parted_fit fi cols rows bo size false None b = tt
-parted_fit fi cols rows bo size false (Some subsize) b = (b, tt)
+parted_fit : (fi : FrameInvariants) (cols rows : ℕ) (current : Option CurrentBlock) (bo : BlockOffset) (size : BlockSize) (on : Bool) (o : Option BlockSize) → IsBlock cols rows bo size → AllFit fi cols rows current (if on then [] else option_map_or (λ subsize. Parted bo size subsize ∷ []) o [])
+parted_fit fi cols rows current bo size true o b = tt
+parted_fit fi cols rows current bo size false None b = tt
+parted_fit fi cols rows current bo size false (Some subsize) b = (b, tt)
 
 parted_at : (bo : BlockOffset) (size : BlockSize) (on : Bool) (o : Option BlockSize) → AllAt (Some bo) (if on then [] else option_map_or (λ subsize. Parted bo size subsize ∷ []) o [])
 parted_at bo size true o = tt
@@ -143,7 +155,7 @@ partition_is_kind : (bo : BlockOffset) (size : BlockSize) (t : Tile) → AreCdfs
 partition_is_kind bo size t cdfs k = record {
   reads = kind_reads (partition_kind bo size t) (λ p. IsTrue (is_allowed (has_cols t.bc.blocks bo size) (has_rows t.bc.blocks bo size) size p)) 1 (omega arith)
       (λ p h g. (all_hold ((partition_kind bo size t).answering p) (none_is _ g)).0) (λ h. partition_reads t.numbers t.bc bo size cdfs (can_part bo size t k h));
-  fit = λ p h. parted_fit t.given.fi t.bc.blocks.cols t.bc.blocks.rows bo size (is_split_on size p) (subsize_of size p)
+  fit = λ p h. parted_fit t.given.fi t.bc.blocks.cols t.bc.blocks.rows t.current bo size (is_split_on size p) (subsize_of size p)
       (parted_block t bo size (can_part bo size t k (asking_holds (partition_kind bo size t).asking ((partition_kind bo size t).answering p) h)));
   at_place = λ p. parted_at bo size (is_split_on size p) (subsize_of size p);
 }
@@ -161,10 +173,10 @@ current_is_kind : {A : Type 0} (t : Tile) (o : Option CurrentBlock) (step : A �
 current_is_kind t None step f h = none_is_kind t step
 current_is_kind t (Some b) step f h = h b refl
 
-skip_fit : (fi : FrameInvariants) (cols rows : ℕ) (b : CurrentBlock) (on : Bool) → IsBlock cols rows (place_of_block b) (size_of_block b) →
-    AllFit fi cols rows (Over (place_of_block b) (size_of_block b) (λ x. record x { skip = on }) ∷ (if on then Unfilled (place_of_block b) (size_of_block b) ∷ [] else []))
-skip_fit fi cols rows b true h = ((h, λ x fine. record { mode = fine.mode; segment = fine.segment }), (h, tt))
-skip_fit fi cols rows b false h = ((h, λ x fine. record { mode = fine.mode; segment = fine.segment }), tt)
+skip_fit : (fi : FrameInvariants) (cols rows : ℕ) (current : Option CurrentBlock) (b : CurrentBlock) (on : Bool) → IsBlock cols rows (place_of_block b) (size_of_block b) →
+    AllFit fi cols rows current (Over (place_of_block b) (size_of_block b) (λ x. record x { skip = on }) ∷ (if on then Unfilled (place_of_block b) (size_of_block b) ∷ [] else []))
+skip_fit fi cols rows current b true h = ((h, λ x fine. record { mode = fine.mode; segment = fine.segment }, λ c is x e. e), (h, tt))
+skip_fit fi cols rows current b false h = ((h, λ x fine. record { mode = fine.mode; segment = fine.segment }, λ c is x e. e), tt)
 
 skip_at : (b : CurrentBlock) (on : Bool) → AllAt (Some (place_of_block b)) (Over (place_of_block b) (size_of_block b) (λ x. record x { skip = on }) ∷ (if on then Unfilled (place_of_block b) (size_of_block b) ∷ [] else []))
 skip_at b true = (refl, (refl, tt))
@@ -173,7 +185,7 @@ skip_at b false = (refl, tt)
 skip_is_kind : (t : Tile) (b : CurrentBlock) → IsBlock t.bc.blocks.cols t.bc.blocks.rows (place_of_block b) (size_of_block b) → IsKind t (skip_kind t b)
 skip_is_kind t b h = record {
   reads = kind_reads (skip_kind t b) (λ on. Unit {0}) 1 (omega arith) (λ on h g. tt) (λ h. skip_reads t.bc.blocks (place_of_block b));
-  fit = λ on g. skip_fit t.given.fi t.bc.blocks.cols t.bc.blocks.rows b on h;
+  fit = λ on g. skip_fit t.given.fi t.bc.blocks.cols t.bc.blocks.rows t.current b on h;
   at_place = λ on. skip_at b on;
 }
 
@@ -183,12 +195,22 @@ is_kind OfRowStart t v k = row_start_is_kind t
 is_kind (OfBlock bo size) t v k = block_is_kind bo size t
 is_kind (OfPartition bo size) t v k = partition_is_kind bo size t v k
 is_kind OfSkip t v k = current_is_kind t t.current Skip (skip_kind t) (λ b e. skip_is_kind t b (k.current b e))
+is_kind OfSegment t v k = current_is_kind t t.current Segment (segment_kind t) (λ b e. segment_is_kind t b (k.current b e))
 is_kind OfIntraModeKf t v k = current_is_kind t t.current IntraModeKf (intra_mode_kf_kind t) (λ b e. intra_mode_kf_is_kind t b (k.current b e))
 is_kind OfUvMode t v k = current_is_kind t t.current UvMode (uv_mode_kind t) (λ b e. uv_mode_is_kind t b k (k.current b e))
 is_kind OfIntraMode t v k = current_is_kind t t.current IntraMode (intra_mode_kind t) (λ b e. intra_mode_is_kind t b (k.current b e))
 is_kind OfCdef t v k = current_is_kind t t.current Cdef (cdef_kind t) (λ b e. cdef_is_kind t b k (k.current b e))
+is_kind OfDeltaLf t v k = current_is_kind t t.current DeltaLf (delta_lf_kind t) (λ b e. delta_lf_is_kind t b (k.current b e))
+is_kind (OfAngleDelta chroma) t v k = current_is_kind t t.current (AngleDelta chroma) (angle_delta_kind chroma t) (λ b e. angle_delta_is_kind chroma t b)
+is_kind OfCflAlphas t v k = current_is_kind t t.current CflAlphas (cfl_alphas_kind t) (λ b e. cfl_alphas_is_kind t b)
 is_kind OfFilterIntra t v k = current_is_kind t t.current FilterIntra (filter_intra_kind t) (λ b e. filter_intra_is_kind t b (k.current b e))
 is_kind OfPalette t v k = current_is_kind t t.current Palette (palette_kind t) (λ b e. palette_is_kind t b (k.current b e))
+is_kind OfTxNote t v k = current_is_kind t t.current note (tx_note_kind t) (λ b e. tx_note_is_kind t b (k.current b e))
+is_kind OfTxIntra t v k = current_is_kind t t.current TxIntra (tx_intra_kind t) (λ b e. tx_intra_is_kind t b e (k.current b e))
+is_kind OfTxInter t v k = current_is_kind t t.current TxInter (tx_inter_kind t) (λ b e. tx_inter_is_kind t b e (k.current b e))
+is_kind (OfLumaCoeffs bo) t v k = luma_coeffs_is_kind t k bo
+is_kind (OfChromaCoeffs plane bo given) t v k = chroma_coeffs_is_kind t k plane bo given
+is_kind (OfLrf plane) t v k = lrf_is_kind plane t k
 
 -- a step is the one with its answer
 step_named : (step : TileStep) (t : Tile) → (kind_of (question_of step) t).step (answer_of step) ≡ step
@@ -199,9 +221,19 @@ step_named (IntraModeKf m) t = of_current_named IntraModeKf (intra_mode_kf_kind 
 step_named (UvMode m) t = of_current_named UvMode (uv_mode_kind t) t.current (λ b. refl) m
 step_named (IntraMode m) t = of_current_named IntraMode (intra_mode_kind t) t.current (λ b. refl) m
 step_named (Skip on) t = of_current_named Skip (skip_kind t) t.current (λ b. refl) on
+step_named (Segment i) t = of_current_named Segment (segment_kind t) t.current (λ b. refl) i
 step_named (Cdef i) t = of_current_named Cdef (cdef_kind t) t.current (λ b. refl) i
+step_named (DeltaLf ds) t = of_current_named DeltaLf (delta_lf_kind t) t.current (λ b. refl) ds
+step_named (AngleDelta chroma a) t = of_current_named (AngleDelta chroma) (angle_delta_kind chroma t) t.current (λ b. refl) a
+step_named (CflAlphas f) t = of_current_named CflAlphas (cfl_alphas_kind t) t.current (λ b. refl) f
 step_named (FilterIntra on) t = of_current_named FilterIntra (filter_intra_kind t) t.current (λ b. refl) on
 step_named (Palette on) t = of_current_named Palette (palette_kind t) t.current (λ b. refl) on
+step_named TxNote t = of_current_named note (tx_note_kind t) t.current (λ b. refl) tt
+step_named (TxIntra tx) t = of_current_named TxIntra (tx_intra_kind t) t.current (λ b. refl) tx
+step_named (TxInter split) t = of_current_named TxInter (tx_inter_kind t) t.current (λ b. refl) split
+step_named (Coeffs zero x y given levels) t = refl
+step_named (Coeffs (suc plane) x y given levels) t = refl
+step_named (Lrf plane filter) t = refl
 
 -- what a step with an answer has
 IsAsked : (q : Question) (t : Tile) (a : Answer q) → TileStep → Type 0
@@ -217,9 +249,19 @@ asked OfIntraModeKf t a = subst (IsAsked OfIntraModeKf t a) (sym (of_current_nam
 asked OfUvMode t a = subst (IsAsked OfUvMode t a) (sym (of_current_named UvMode (uv_mode_kind t) t.current (λ b. refl) a)) (refl, refl, refl)
 asked OfIntraMode t a = subst (IsAsked OfIntraMode t a) (sym (of_current_named IntraMode (intra_mode_kind t) t.current (λ b. refl) a)) (refl, refl, refl)
 asked OfSkip t a = subst (IsAsked OfSkip t a) (sym (of_current_named Skip (skip_kind t) t.current (λ b. refl) a)) (refl, refl, refl)
+asked OfSegment t a = subst (IsAsked OfSegment t a) (sym (of_current_named Segment (segment_kind t) t.current (λ b. refl) a)) (refl, refl, refl)
 asked OfCdef t a = subst (IsAsked OfCdef t a) (sym (of_current_named Cdef (cdef_kind t) t.current (λ b. refl) a)) (refl, refl, refl)
+asked OfDeltaLf t a = subst (IsAsked OfDeltaLf t a) (sym (of_current_named DeltaLf (delta_lf_kind t) t.current (λ b. refl) a)) (refl, refl, refl)
+asked (OfAngleDelta chroma) t a = subst (IsAsked (OfAngleDelta chroma) t a) (sym (of_current_named (AngleDelta chroma) (angle_delta_kind chroma t) t.current (λ b. refl) a)) (refl, refl, refl)
+asked OfCflAlphas t a = subst (IsAsked OfCflAlphas t a) (sym (of_current_named CflAlphas (cfl_alphas_kind t) t.current (λ b. refl) a)) (refl, refl, refl)
 asked OfFilterIntra t a = subst (IsAsked OfFilterIntra t a) (sym (of_current_named FilterIntra (filter_intra_kind t) t.current (λ b. refl) a)) (refl, refl, refl)
 asked OfPalette t a = subst (IsAsked OfPalette t a) (sym (of_current_named Palette (palette_kind t) t.current (λ b. refl) a)) (refl, refl, refl)
+asked OfTxNote t a = subst (IsAsked OfTxNote t a) (sym (of_current_named note (tx_note_kind t) t.current (λ b. refl) a)) (refl, refl, refl)
+asked OfTxIntra t a = subst (IsAsked OfTxIntra t a) (sym (of_current_named TxIntra (tx_intra_kind t) t.current (λ b. refl) a)) (refl, refl, refl)
+asked OfTxInter t a = subst (IsAsked OfTxInter t a) (sym (of_current_named TxInter (tx_inter_kind t) t.current (λ b. refl) a)) (refl, refl, refl)
+asked (OfLumaCoeffs bo) t a = (refl, refl, refl)
+asked (OfChromaCoeffs plane bo given) t a = (refl, refl, refl)
+asked (OfLrf plane) t a = (refl, refl, refl)
 
 is_asked : (q : Question) (t : Tile) (a : Answer q) → let step = (kind_of q t).step a in (question_of step ≡ q) × (rules step t ≡ rules_of (kind_of q t) a) × (symbols_of step t ≡ (answers (kind_of q t)).symbols a)
 unfolding IsAsked
@@ -271,9 +313,19 @@ same_rules (IntraModeKf m) ns t = of_current_rules IntraModeKf (intra_mode_kf_ki
 same_rules (UvMode m) ns t = of_current_rules UvMode (uv_mode_kind (with_numbers ns t)) (uv_mode_kind t) t.current m (λ b. refl)
 same_rules (IntraMode m) ns t = of_current_rules IntraMode (intra_mode_kind (with_numbers ns t)) (intra_mode_kind t) t.current m (λ b. refl)
 same_rules (Skip on) ns t = of_current_rules Skip (skip_kind (with_numbers ns t)) (skip_kind t) t.current on (λ b. refl)
+same_rules (Segment i) ns t = of_current_rules Segment (segment_kind (with_numbers ns t)) (segment_kind t) t.current i (λ b. refl)
 same_rules (Cdef i) ns t = of_current_rules Cdef (cdef_kind (with_numbers ns t)) (cdef_kind t) t.current i (λ b. refl)
+same_rules (DeltaLf ds) ns t = of_current_rules DeltaLf (delta_lf_kind (with_numbers ns t)) (delta_lf_kind t) t.current ds (λ b. refl)
+same_rules (AngleDelta chroma a) ns t = of_current_rules (AngleDelta chroma) (angle_delta_kind chroma (with_numbers ns t)) (angle_delta_kind chroma t) t.current a (λ b. refl)
+same_rules (CflAlphas f) ns t = of_current_rules CflAlphas (cfl_alphas_kind (with_numbers ns t)) (cfl_alphas_kind t) t.current f (λ b. refl)
 same_rules (FilterIntra on) ns t = of_current_rules FilterIntra (filter_intra_kind (with_numbers ns t)) (filter_intra_kind t) t.current on (λ b. refl)
 same_rules (Palette on) ns t = of_current_rules Palette (palette_kind (with_numbers ns t)) (palette_kind t) t.current on (λ b. refl)
+same_rules TxNote ns t = of_current_rules note (tx_note_kind (with_numbers ns t)) (tx_note_kind t) t.current tt (λ b. refl)
+same_rules (TxIntra tx) ns t = of_current_rules TxIntra (tx_intra_kind (with_numbers ns t)) (tx_intra_kind t) t.current tx (λ b. refl)
+same_rules (TxInter split) ns t = of_current_rules TxInter (tx_inter_kind (with_numbers ns t)) (tx_inter_kind t) t.current split (λ b. refl)
+same_rules (Coeffs zero x y given levels) ns t = refl
+same_rules (Coeffs (suc plane) x y given levels) ns t = refl
+same_rules (Lrf plane filter) ns t = refl
 
 -- a step keeps what every state keeps
 pub kept_after : (step : TileStep) (ns : List ℕ) (t : Tile) → AreCdfs ns → IsKept t → IsAllowed step t → IsKept (entered step (with_numbers ns t))
@@ -287,7 +339,7 @@ pub kept_past : (t : Tile) (step : TileStep) → AreCdfs t.numbers → IsKept t 
 kept_past t step v k h = kept_after step (context_along coded_by (learnt t.learns) (syntax_of (question_of step) t) (symbols_of step t) t.numbers) t (fits_after step t v k h).1 k h
 
 -- what a step changes fits, whatever the numbers
-pub step_fit : (step : TileStep) (ns : List ℕ) (t : Tile) → AreCdfs ns → IsKept t → IsAllowed step t → AllFit t.given.fi t.bc.blocks.cols t.bc.blocks.rows (effects_of step (with_numbers ns t))
+pub step_fit : (step : TileStep) (ns : List ℕ) (t : Tile) → AreCdfs ns → IsKept t → IsAllowed step t → AllFit t.given.fi t.bc.blocks.cols t.bc.blocks.rows t.current (effects_of step (with_numbers ns t))
 step_fit step ns t v k h =
     let u = with_numbers ns t in
     (is_kind (question_of step) u v (numbers_kept ns t k)).fit (answer_of step) (ap is_none (ap first_broken (same_rules step ns t) ∙ h))
@@ -301,13 +353,54 @@ same_place OfIntraModeKf ns t = of_current_places IntraModeKf (intra_mode_kf_kin
 same_place OfUvMode ns t = of_current_places UvMode (uv_mode_kind (with_numbers ns t)) (uv_mode_kind t) t.current (λ b. refl)
 same_place OfIntraMode ns t = of_current_places IntraMode (intra_mode_kind (with_numbers ns t)) (intra_mode_kind t) t.current (λ b. refl)
 same_place OfSkip ns t = of_current_places Skip (skip_kind (with_numbers ns t)) (skip_kind t) t.current (λ b. refl)
+same_place OfSegment ns t = of_current_places Segment (segment_kind (with_numbers ns t)) (segment_kind t) t.current (λ b. refl)
 same_place OfCdef ns t = of_current_places Cdef (cdef_kind (with_numbers ns t)) (cdef_kind t) t.current (λ b. refl)
+same_place OfDeltaLf ns t = of_current_places DeltaLf (delta_lf_kind (with_numbers ns t)) (delta_lf_kind t) t.current (λ b. refl)
+same_place (OfAngleDelta chroma) ns t = of_current_places (AngleDelta chroma) (angle_delta_kind chroma (with_numbers ns t)) (angle_delta_kind chroma t) t.current (λ b. refl)
+same_place OfCflAlphas ns t = of_current_places CflAlphas (cfl_alphas_kind (with_numbers ns t)) (cfl_alphas_kind t) t.current (λ b. refl)
 same_place OfFilterIntra ns t = of_current_places FilterIntra (filter_intra_kind (with_numbers ns t)) (filter_intra_kind t) t.current (λ b. refl)
 same_place OfPalette ns t = of_current_places Palette (palette_kind (with_numbers ns t)) (palette_kind t) t.current (λ b. refl)
+same_place OfTxNote ns t = of_current_places note (tx_note_kind (with_numbers ns t)) (tx_note_kind t) t.current (λ b. refl)
+same_place OfTxIntra ns t = of_current_places TxIntra (tx_intra_kind (with_numbers ns t)) (tx_intra_kind t) t.current (λ b. refl)
+same_place OfTxInter ns t = of_current_places TxInter (tx_inter_kind (with_numbers ns t)) (tx_inter_kind t) t.current (λ b. refl)
+same_place (OfLumaCoeffs bo) ns t = refl
+same_place (OfChromaCoeffs plane bo given) ns t = refl
+same_place (OfLrf plane) ns t = refl
 
 pub step_at : (step : TileStep) (ns : List ℕ) (t : Tile) → AreCdfs ns → IsKept t → AllAt (kind_of (question_of step) t).place (effects_of step (with_numbers ns t))
 step_at step ns t v k =
     subst (λ o. AllAt o (effects_of step (with_numbers ns t))) (same_place (question_of step) ns t) ((is_kind (question_of step) (with_numbers ns t) v (numbers_kept ns t k)).at_place (answer_of step))
+
+-- a step that a trial can have changes nothing where it has no place
+bare : (step : TileStep) (t : Tile) → is_untried step ≡ false → (kind_of (question_of step) t).place ≡ None → effects_of step t ≡ []
+bare RowStart t tried h = cc
+bare (Block x y size) t tried h = cc
+bare (Partition x y size p) t tried h = cc
+bare (IntraModeKf m) t tried h = current_bare IntraModeKf (intra_mode_kf_kind t) t.current (λ b. refl) m h
+bare (UvMode m) t tried h = current_bare UvMode (uv_mode_kind t) t.current (λ b. refl) m h
+bare (IntraMode m) t tried h = current_bare IntraMode (intra_mode_kind t) t.current (λ b. refl) m h
+bare (Skip on) t tried h = current_bare Skip (skip_kind t) t.current (λ b. refl) on h
+bare (Segment i) t tried h = current_bare Segment (segment_kind t) t.current (λ b. refl) i h
+bare (Cdef i) t tried h = current_bare Cdef (cdef_kind t) t.current (λ b. refl) i h
+bare (DeltaLf ds) t tried h = current_bare DeltaLf (delta_lf_kind t) t.current (λ b. refl) ds h
+bare (AngleDelta chroma a) t tried h = current_bare (AngleDelta chroma) (angle_delta_kind chroma t) t.current (λ b. refl) a h
+bare (CflAlphas f) t tried h = current_bare CflAlphas (cfl_alphas_kind t) t.current (λ b. refl) f h
+bare (FilterIntra on) t tried h = current_bare FilterIntra (filter_intra_kind t) t.current (λ b. refl) on h
+bare (Palette on) t tried h = current_bare Palette (palette_kind t) t.current (λ b. refl) on h
+bare TxNote t tried h = current_bare note (tx_note_kind t) t.current (λ b. refl) tt h
+bare (TxIntra tx) t tried h = current_bare TxIntra (tx_intra_kind t) t.current (λ b. refl) tx h
+bare (TxInter split) t tried h = current_bare TxInter (tx_inter_kind t) t.current (λ b. refl) split h
+bare (Coeffs zero x y given levels) t tried h = cc
+bare (Coeffs (suc plane) x y given levels) t tried h = cc
+bare (Lrf plane filter) t tried h = cc
+
+-- and it leaves what restoration filters refer to
+pub tried_still : (step : TileStep) (ns : List ℕ) (t : Tile) → AreCdfs ns → IsKept t → is_untried step ≡ false → (entered step (with_numbers ns t)).rs ≡ t.rs
+tried_still step ns t v k tried = at_place (kind_of (question_of step) t).place refl
+  where
+    at_place : (o : Option BlockOffset) → (kind_of (question_of step) t).place ≡ o → (entered step (with_numbers ns t)).rs ≡ t.rs
+    at_place None e = ap (λ (es : List Effect). (changed_by_all es (with_numbers ns t)).rs) (bare step (with_numbers ns t) tried (same_place (question_of step) ns t ∙ e))
+    at_place (Some bo) e = all_still (effects_of step (with_numbers ns t)) bo (with_numbers ns t) (subst (λ o. AllAt o (effects_of step (with_numbers ns t))) e (step_at step ns t v k))
 
 -- what a writer stores of a step, and the numbers after it
 pub step_written : (step : TileStep) (t : Tile) (p there : Position) (numbers : List ℕ) → AreCdfs t.numbers → IsKept t → Writes coded_by (learnt t.learns) (syntax_of (question_of step) t) step (standing p t.numbers) (standing there numbers) →

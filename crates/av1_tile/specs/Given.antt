@@ -1,6 +1,7 @@
 -- What a reader is given of a unit: nothing of its scripts. And where the tiles of a frame lie.
 use Rattle.std.specs.Prelude.{◌≡◌, ℕ, ◌+◌, ◌-◌, ◌*◌, ◌/◌, ◌%◌, ◌^◌, ◌≤◌, min, List, Bool, Option, None}
 use Rattle.av1_cdf.specs.Tables.{table_rules}
+use Rattle.av1_coef.specs.Scans.{scans_rules}
 use Rattle.av1_frame.specs.declared.frame.FrameInvariants.{FrameInvariants}
 use Rattle.av1_frame.specs.declared.metadata.Metadata.{Metadata}
 use Rattle.av1_frame.specs.declared.reference.RefState.{RefState}
@@ -10,10 +11,12 @@ use Rattle.av1_frame.specs.HeaderRules.{blocks}
 use Rattle.av1_frame.specs.SequenceRules.{sequence_rules}
 use Rattle.av1_frame.specs.TileRules.{tiling_of}
 use Rattle.av1_geometry.specs.Rules.{first_broken}
+use Rattle.av1_geometry.specs.declared.error.Rule.{Rule}
 use Rattle.av1_tile.specs.declared.unit.Unit.{Unit}
 
 pub record Given : Type 0 where
   pub tables : List (List ℕ)
+  pub scans : List (List (List ℕ))
   pub fi : FrameInvariants
   pub fs : FrameState
   pub refs : List (Option RefState)
@@ -21,11 +24,16 @@ pub record Given : Type 0 where
   pub delimiter : Bool
 
 abbrev pub given_of : Unit → Given
-given_of u = record { tables = u.tables; fi = u.fi; fs = u.fs; refs = u.refs; metadata = u.metadata.items; delimiter = u.delimiter }
+given_of u = record { tables = u.tables; scans = u.scans; fi = u.fi; fs = u.fs; refs = u.refs; metadata = u.metadata.items; delimiter = u.delimiter }
 
--- its tables, sequence and frame break no rule
+-- the first rule that scans break
+unfoldable pub broken_scan_rule : List (List (List ℕ)) → Option Rule
+broken_scan_rule scans = first_broken (scans_rules scans)
+
+-- its tables, scans, sequence and frame break no rule
 pub record IsGiven (g : Given) : Type 0 where
   pub tables : first_broken (table_rules g.tables) ≡ None
+  pub scans : broken_scan_rule g.scans ≡ None
   pub sequence : first_broken (sequence_rules g.fi.sequence) ≡ None
   pub frame : first_broken (frame_rules g.fi g.fs g.refs) ≡ None
 

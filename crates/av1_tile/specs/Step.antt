@@ -1,57 +1,47 @@
 -- The kinds of step. Each is a row: its place, its rules, what a reader does, what its answer changes.
-use Rattle.std.specs.Prelude.{Option, ℕ, ◌^◌, option_map, ◌%◌, ◌&&◌, ◌==◌, List, [], ◌∷◌, Bool, true, false, Some, None, is_some, nat_le, nat_lt, if◌then◌else◌}
+use Rattle.std.specs.Prelude.{Option, ℕ, ℤ, ◌^◌, option_map, ◌%◌, ◌&&◌, ◌==◌, List, [], ◌∷◌, Bool, true, false, Some, None, nat_le, nat_lt, if◌then◌else◌, zero, suc}
 use Rattle.std.specs.Option.{option_map_or}
-use Rattle.av1_blocks.specs.declared.block.Block.{Block as GridBlock}
-use Rattle.av1_blocks.specs.declared.block.TheConstants.Block.{DEFAULT}
 use Rattle.av1_cdf.specs.Distribution.{Distribution}
 use Rattle.av1_geometry.specs.Rules.{Check, first_broken, rule}
 use Rattle.av1_geometry.specs.declared.block_offset.BlockOffset.{BlockOffset}
 use Rattle.av1_geometry.specs.declared.block_size.BlockSize.{BlockSize}
 use Rattle.av1_geometry.specs.declared.partition_type.PartitionType.{PartitionType}
 use Rattle.av1_geometry.specs.declared.prediction_mode.PredictionMode.{PredictionMode}
-use Rattle.av1_geometry.specs.declared.ref_type.RefType.TheVariants.{INTRA_FRAME, NONE_FRAME}
+use Rattle.av1_geometry.specs.declared.tx_size.TxSize.{TxSize}
+use Rattle.av1_geometry.specs.declared.tx_type.TxType.{TxType}
 use Rattle.av1_geometry.specs.BlockSize.{width_log2, height_log2, width_mi, height_mi}
-use Rattle.av1_geometry.specs.BlockTables.{max_tx_size, subsampled_size_of, subsize_of}
-use Rattle.av1_geometry.specs.ChromaSampling.{xdec_of, ydec_of}
+use Rattle.av1_geometry.specs.BlockTables.{subsize_of}
 use Rattle.av1_geometry.specs.PartitionType.{partition_number}
 use Rattle.av1_model.specs.Element.{Element, known}
 use Rattle.av1_model.specs.Syntax.{Syntax}
 use Rattle.av1_syntax.specs.Flags.{skip_element}
+use Rattle.av1_syntax.specs.declared.restoration.RestorationFilter.{RestorationFilter}
 use Rattle.av1_syntax.specs.Partition.{has_cols, has_rows, is_allowed, partition_element}
 use Rattle.av1_tile.specs.declared.error.StepFault.{StepFault}
 use Rattle.av1_tile.specs.declared.error.StepFault.TheVariants.{TooLong, Broken}
 use Rattle.av1_tile.specs.declared.unit.TileStep.{TileStep}
-use Rattle.av1_tile.specs.declared.unit.TileStep.TheVariants.{RowStart, Block, Partition, Skip, IntraModeKf, UvMode, IntraMode, Cdef, FilterIntra, Palette}
+use Rattle.av1_tile.specs.declared.unit.TileStep.TheVariants.{RowStart, Block, Partition, Skip, IntraModeKf, UvMode, IntraMode, Cdef, FilterIntra, Palette, Lrf, Segment, DeltaLf, AngleDelta, CflAlphas, TxNote, TxIntra, TxInter, Coeffs}
+use Rattle.av1_tile.specs.AngleSteps.{angle_delta_kind, cfl_alphas_kind}
+use Rattle.av1_tile.specs.DeltaSteps.{segment_kind, delta_lf_kind}
+use Rattle.av1_tile.specs.CoeffSteps.{chroma_coeffs_kind, luma_coeffs_kind}
 use Rattle.av1_tile.specs.Effect.{Effect, Over, Parted, Unfilled, NewRow, Become, changed_by_all}
 use Rattle.av1_tile.specs.IntraSteps.{intra_mode_kf_kind, uv_mode_kind, intra_mode_kind}
 use Rattle.av1_tile.specs.FilterSteps.{cdef_kind, filter_intra_kind, palette_kind}
+use Rattle.av1_tile.specs.RestorationSteps.{lrf_kind}
+use Rattle.av1_tile.specs.TransformSteps.{note, tx_note_kind, tx_intra_kind, tx_inter_kind}
 use Rattle.av1_tile.specs.Kind.{Kind, answers, rules_of, steps, of_block, of_current}
-use Rattle.av1_tile.specs.Tile.{Tile, CurrentBlock, place_of_block, size_of_block, sampling}
+use Rattle.av1_tile.specs.Tile.{Tile, CurrentBlock, has_chroma_size, is_inside, place_of_block, size_of_block, sampling}
 
 -- a row of superblocks begins
 abbrev pub row_start_kind : Kind (Unit {0})
 row_start_kind = record { place = None; asking = []; answering = λ a. []; element = known tt; effects = λ a. NewRow ∷ []; step = λ a. RowStart }
-
--- a place lies inside the tile
-abbrev pub is_inside : Tile → BlockOffset → Bool
-is_inside t bo = nat_lt bo.x t.bc.blocks.cols && nat_lt bo.y t.bc.blocks.rows
 
 abbrev pub is_aligned : BlockOffset → BlockSize → Bool
 is_aligned bo size = (bo.x % width_mi size == 0) && (bo.y % height_mi size == 0)
 
 -- a size without a side of 128 whose chroma has a size
 abbrev pub is_coded_size : Tile → BlockSize → Bool
-is_coded_size t size = nat_le (width_log2 size) 6 && nat_le (height_log2 size) 6 && is_some (subsampled_size_of size (xdec_of (sampling t)) (ydec_of (sampling t)))
-
--- what stands in the grid where a block of a size was entered
-abbrev pub new_block : BlockSize → GridBlock
-new_block size = record DEFAULT {
-  bsize = size;
-  n4_w = width_mi size;
-  n4_h = height_mi size;
-  ref_frames = INTRA_FRAME ∷ NONE_FRAME ∷ [];
-  txsize = max_tx_size size;
-}
+is_coded_size t size = nat_le (width_log2 size) 6 && nat_le (height_log2 size) 6 && has_chroma_size (sampling t) size
 
 -- a block becomes the current one; nothing is coded
 abbrev pub block_kind : BlockOffset → BlockSize → Tile → Kind (Unit {0})
@@ -60,7 +50,7 @@ block_kind bo size t = record {
   asking = rule 60 (is_inside t bo) ∷ rule 61 (is_coded_size t size && is_aligned bo size) ∷ [];
   answering = λ a. [];
   element = known tt;
-  effects = λ a. Over bo size (λ b. new_block size) ∷ Become (record { 0 = bo }, size) ∷ [];
+  effects = λ a. Become (record { 0 = bo }, size) ∷ [];
   step = λ a. Block bo.x bo.y size;
 }
 
@@ -101,12 +91,23 @@ pub data Question : Type 0 where
   OfBlock : BlockOffset → BlockSize → Question
   OfPartition : BlockOffset → BlockSize → Question
   OfSkip : Question
+  OfSegment : Question
   OfIntraModeKf : Question
   OfUvMode : Question
   OfIntraMode : Question
   OfCdef : Question
+  OfDeltaLf : Question
+  OfAngleDelta : Bool → Question
+  OfCflAlphas : Question
   OfFilterIntra : Question
   OfPalette : Question
+  OfTxNote : Question
+  OfTxIntra : Question
+  OfTxInter : Question
+  OfLumaCoeffs : BlockOffset → Question
+  -- the plane less 1, and the type of the transform, which is not coded there
+  OfChromaCoeffs : ℕ → BlockOffset → TxType → Question
+  OfLrf : ℕ → Question
 
 -- what the bytes tell of it
 abbrev pub Answer : Question → Type 0
@@ -114,52 +115,93 @@ Answer OfRowStart = Unit {0}
 Answer (OfBlock bo size) = Unit {0}
 Answer (OfPartition bo size) = PartitionType
 Answer OfSkip = Bool
+Answer OfSegment = ℕ
 Answer OfIntraModeKf = PredictionMode
 Answer OfUvMode = PredictionMode
 Answer OfIntraMode = PredictionMode
 Answer OfCdef = ℕ
+Answer OfDeltaLf = List ℤ
+Answer (OfAngleDelta chroma) = ℤ
+Answer OfCflAlphas = ℤ × ℤ
 Answer OfFilterIntra = Bool
 Answer OfPalette = Bool
+Answer OfTxNote = Unit {0}
+Answer OfTxIntra = TxSize
+Answer OfTxInter = Bool
+Answer (OfLumaCoeffs bo) = TxType × List ℤ
+Answer (OfChromaCoeffs plane bo given) = List ℤ
+Answer (OfLrf plane) = RestorationFilter
 
 abbrev pub question_of : TileStep → Question
 question_of RowStart = OfRowStart
 question_of (Block x y size) = OfBlock record { x = x; y = y } size
 question_of (Partition x y size p) = OfPartition record { x = x; y = y } size
 question_of (Skip on) = OfSkip
+question_of (Segment i) = OfSegment
 question_of (IntraModeKf m) = OfIntraModeKf
 question_of (UvMode m) = OfUvMode
 question_of (IntraMode m) = OfIntraMode
 question_of (Cdef i) = OfCdef
+question_of (DeltaLf ds) = OfDeltaLf
+question_of (AngleDelta chroma a) = OfAngleDelta chroma
+question_of (CflAlphas f) = OfCflAlphas
 question_of (FilterIntra on) = OfFilterIntra
 question_of (Palette on) = OfPalette
+question_of TxNote = OfTxNote
+question_of (TxIntra tx) = OfTxIntra
+question_of (TxInter split) = OfTxInter
+question_of (Coeffs zero x y t levels) = OfLumaCoeffs record { x = x; y = y }
+question_of (Coeffs (suc plane) x y t levels) = OfChromaCoeffs plane record { x = x; y = y } t
+question_of (Lrf plane filter) = OfLrf plane
 
 abbrev pub answer_of : (step : TileStep) → Answer (question_of step)
 answer_of RowStart = tt
 answer_of (Block x y size) = tt
 answer_of (Partition x y size p) = p
 answer_of (Skip on) = on
+answer_of (Segment i) = i
 answer_of (IntraModeKf m) = m
 answer_of (UvMode m) = m
 answer_of (IntraMode m) = m
 answer_of (Cdef i) = i
+answer_of (DeltaLf ds) = ds
+answer_of (AngleDelta chroma a) = a
+answer_of (CflAlphas f) = f
 answer_of (FilterIntra on) = on
 answer_of (Palette on) = on
+answer_of TxNote = tt
+answer_of (TxIntra tx) = tx
+answer_of (TxInter split) = split
+answer_of (Coeffs zero x y t levels) = (t, levels)
+answer_of (Coeffs (suc plane) x y t levels) = levels
+answer_of (Lrf plane filter) = filter
 
 abbrev pub kind_of : (q : Question) → Tile → Kind (Answer q)
 kind_of OfRowStart t = row_start_kind
 kind_of (OfBlock bo size) t = block_kind bo size t
 kind_of (OfPartition bo size) t = partition_kind bo size t
 kind_of OfSkip t = of_current t.current Skip (skip_kind t)
+kind_of OfSegment t = of_current t.current Segment (segment_kind t)
 kind_of OfIntraModeKf t = of_current t.current IntraModeKf (intra_mode_kf_kind t)
 kind_of OfUvMode t = of_current t.current UvMode (uv_mode_kind t)
 kind_of OfIntraMode t = of_current t.current IntraMode (intra_mode_kind t)
 kind_of OfCdef t = of_current t.current Cdef (cdef_kind t)
+kind_of OfDeltaLf t = of_current t.current DeltaLf (delta_lf_kind t)
+kind_of (OfAngleDelta chroma) t = of_current t.current (AngleDelta chroma) (angle_delta_kind chroma t)
+kind_of OfCflAlphas t = of_current t.current CflAlphas (cfl_alphas_kind t)
 kind_of OfFilterIntra t = of_current t.current FilterIntra (filter_intra_kind t)
 kind_of OfPalette t = of_current t.current Palette (palette_kind t)
+kind_of OfTxNote t = of_current t.current note (tx_note_kind t)
+kind_of OfTxIntra t = of_current t.current TxIntra (tx_intra_kind t)
+kind_of OfTxInter t = of_current t.current TxInter (tx_inter_kind t)
+kind_of (OfLumaCoeffs bo) t = luma_coeffs_kind t t.current bo
+kind_of (OfChromaCoeffs plane bo given) t = chroma_coeffs_kind t t.current (suc plane) bo given
+kind_of (OfLrf plane) t = lrf_kind plane t
 
 -- a step that no trial has: what it changes is not undone
 abbrev pub is_untried : TileStep → Bool
 is_untried RowStart = true
+is_untried (Lrf plane filter) = true
 is_untried step = false
 
 -- the rules of a step, by rising numbers

@@ -14,9 +14,9 @@ use Rattle.av1_tile.specs.declared.report.TrialCost.{TrialCost}
 use Rattle.av1_tile.specs.declared.unit.Item.{Item}
 use Rattle.av1_tile.specs.declared.unit.Item.TheVariants.{Step, Begin, Keep, Abandon}
 use Rattle.av1_tile.specs.declared.unit.TileStep.{TileStep}
-use Rattle.av1_tile.specs.Tile.{Tile}
+use Rattle.av1_tile.specs.Tile.{Tile, is_inside}
 use Rattle.av1_geometry.specs.Rules.{Check, first_broken, rule}
-use Rattle.av1_tile.specs.Step.{question_of, kind_of, is_inside, is_untried, rules, most_bits}
+use Rattle.av1_tile.specs.Step.{question_of, kind_of, is_untried, rules, most_bits}
 use Rattle.av1_tile.specs.Script.{after_step}
 
 -- The steps that survive: each `Abandon` strikes out everything back to the `Begin` that it ends. `outer` has what

@@ -1,7 +1,8 @@
 // The steps that begin rows and blocks, part blocks and skip them.
 ghost use Rattle.std.specs.Prelude.{◌≡◌, ◌^◌, ◌<◌, ◌≤◌, None};
 ghost use Rattle.av1_geometry.specs.BlockSize.{width_log2, height_log2};
-ghost use Rattle.av1_tile.specs.Step.{new_block, is_parted_size, is_split_on};
+ghost use Rattle.av1_tile.specs.Step.{is_parted_size, is_split_on};
+ghost use Rattle.av1_tile.specs.Tile.{new_block};
 
 use crate::tile::TileState;
 use av1_blocks::Block;
@@ -42,6 +43,7 @@ impl<'u> TileState<'u> {
     }
 
     // Whether a size has no side of 128, and its chroma has a size.
+    #[tactic(auto, unfolding(crate::specs::Tile::has_chroma_size))]
     fn is_coded_size(&self, size: BlockSize) -> bool
         ensures { result ≡ is_coded_size (tile_of self.now) size }
     {

@@ -14,6 +14,7 @@ ghost use Rattle.av1_tile.specs.Trials.{error_of, first_wrong};
 ghost use Rattle.av1_tile.specs.TileBytes.{script_of, wrong_in, ending, costs_of};
 
 use crate::check::check_step;
+use crate::costs::TrialCosts;
 use crate::tile::TileState;
 use crate::trial::TrialMark;
 use crate::{Item, Place, StepFault, TileStep, TrialCost, Unit, UnitError, Via};
@@ -28,18 +29,14 @@ pub(crate) struct TileCoder<'u, W> {
     writer: W,
     // What the trials that have begun and not ended keep, the innermost last.
     marks: Vec<TrialMark>,
-    // The places of their costs.
-    begun: Vec<usize>,
-    // All trials' costs, in the order of their beginnings.
-    costs: Vec<TrialCost>,
+    costs: TrialCosts,
 }
 
 impl<'u, W: Writer> TileCoder<'u, W> {
     ghost use Rattle.av1_tile.specs.Coder.{Stands, Knows, Proceeds};
     ghost use Rattle.av1_tile.specs.State.{tile_of};
-    ghost use Rattle.av1_tile.specs.Step.{is_inside};
     ghost use Rattle.av1_tile.specs.Tile.{place_of_block};
-    ghost use Rattle.av1_tile.specs.Trials.{moved, moved_all, ended, misplaced, no_trial, item_fault, strays, first_wrong, place_of};
+    ghost use Rattle.av1_tile.specs.Trials.{moved, moved_all, misplaced, no_trial, item_fault, strays, first_wrong, place_of};
     ghost use Rattle.av1_tile.specs.declared.unit.Item.TheVariants.{Step, Begin, Keep, Abandon};
 
     // Whether a place lies in another superblock than the innermost trial.
@@ -61,12 +58,21 @@ impl<'u, W: Writer> TileCoder<'u, W> {
             TileStep::Block { x, y, .. } => Some(BlockOffset { x: *x, y: *y }),
             TileStep::Partition { x, y, .. } => Some(BlockOffset { x: *x, y: *y }),
             TileStep::Skip { .. } => self.place_of_current(),
+            TileStep::Segment { .. } => self.place_of_current(),
             TileStep::IntraModeKf { .. } => self.place_of_current(),
             TileStep::UvMode { .. } => self.place_of_current(),
             TileStep::IntraMode { .. } => self.place_of_current(),
             TileStep::Cdef { .. } => self.place_of_current(),
+            TileStep::DeltaLf { .. } => self.place_of_current(),
+            TileStep::AngleDelta { .. } => self.place_of_current(),
+            TileStep::CflAlphas { .. } => self.place_of_current(),
             TileStep::FilterIntra { .. } => self.place_of_current(),
             TileStep::Palette { .. } => self.place_of_current(),
+            TileStep::TxNote => self.place_of_current(),
+            TileStep::TxIntra { .. } => self.place_of_current(),
+            TileStep::TxInter { .. } => self.place_of_current(),
+            TileStep::Coeffs { x, y, .. } => Some(BlockOffset { x: *x, y: *y }),
+            TileStep::Lrf { .. } => None,
         }
     }
 
@@ -133,40 +139,39 @@ impl<'u, W: Writer> TileCoder<'u, W> {
         }
     }
 
-    // A trial begins at a place inside the tile, by item `n`.
-    fn begin(&mut self, alloc: Global, n: usize, place: TileBlockOffset) -> Result<(), OutOfMemory>
-        requires inside { is_inside (tile_of self.old.tile) place.0 ≡ true }
-        requires near { Knows W.Known self.old (λ p. strays p.trials (Some place.0) ≡ false) }
-        ensures { OnOk result (Proceeds W.Known self.old self.new (λ p. moved n p (Begin place))) }
+    // What is wrong with item `n`.
+    fn check(&self, n: usize, item: &Item) -> Result<(), UnitError>
+        ensures ok { OnOk result (Knows W.Known self.now (λ p. (misplaced item.now p.at.context p.trials ≡ false) × (item_fault item.now p.at ≡ None))) }
+        ensures err { IfErr result (λ e. Knows W.Known self.now (λ p. (rest : List Item) → first_wrong n p (item.now ∷ rest) ≡ Some e)) }
     {
-        let mark = self.tile.mark(alloc, &self.writer, place)?;
-        let trial = self.costs.len();
-        self.costs.push(TrialCost {
-            tile: self.tile.number(),
-            item: n,
-            eighths: 0,
-            kept: false,
-        })?;
-        self.begun.push(trial)?;
-        self.marks.push(mark)?;
-        Ok(())
+        let tile = self.tile.number();
+        if self.is_misplaced(item) {
+            return Err(UnitError::BadScript { tile, item: n });
+        }
+        match self.check_item(item) {
+            Some(fault) => Err(error_of(tile, n, fault)),
+            None => Ok(()),
+        }
     }
 
-    // The innermost trial ends.
-    fn end(&mut self, kept: bool)
-        requires { Stands W.Known self.old }
-        ensures { Proceeds W.Known self.old self.new (λ p. ended kept p.at p.trials p.costs) }
+    // Takes item `n`, with which nothing is wrong.
+    fn take(&mut self, alloc: Global, n: usize, item: &Item) -> Result<(), OutOfMemory>
+        requires standing { Stands W.Known self.old }
+        requires right { Knows W.Known self.old (λ p. (misplaced item.now p.at.context p.trials ≡ false) × (item_fault item.now p.at ≡ None)) }
+        ensures { OnOk result (Proceeds W.Known self.old self.new (λ p. moved n p item.now)) }
     {
-        let Some(mark) = self.marks.pop() else { return };
-        let Some(trial) = self.begun.pop() else {
-            return
-        };
-        let cost = &mut self.costs[trial];
-        cost.eighths = self.writer.tell_frac() - mark.tell;
-        cost.kept = kept;
-        if !kept {
-            self.tile.go_back(&mut self.writer, &mark);
+        let tile = self.tile.number();
+        let answer = self
+            .tile
+            .write_item(alloc, &mut self.writer, &mut self.marks, item)?;
+        let eighths = answer.unwrap_or(0);
+        match item {
+            Item::Step(_) => {}
+            Item::Begin(_) => self.costs.begin(tile, n)?,
+            Item::Keep => self.costs.end(eighths, true),
+            Item::Abandon => self.costs.end(eighths, false),
         }
+        Ok(())
     }
 
     // Takes item `n`, where it is in its place and breaks no rule.
@@ -176,21 +181,8 @@ impl<'u, W: Writer> TileCoder<'u, W> {
         ensures right { OnOk result (Knows W.Known self.old (λ p. (rest : List Item) → first_wrong n p (item.now ∷ rest) ≡ first_wrong (n + 1) (moved n p item.now) rest)) }
         ensures err { IfErr result (λ e. (e ≡ MemoryError) ⊎ Knows W.Known self.old (λ p. (rest : List Item) → first_wrong n p (item.now ∷ rest) ≡ Some e)) }
     {
-        let tile = self.tile.number();
-        if self.is_misplaced(item) {
-            return Err(UnitError::BadScript { tile, item: n });
-        }
-        if let Some(fault) = self.check_item(item) {
-            return Err(error_of(tile, n, fault));
-        }
-        match item {
-            Item::Step(step) => {
-                self.tile.write_step(&mut self.writer, step)?;
-            }
-            Item::Begin(place) => self.begin(alloc, n, *place)?,
-            Item::Keep => self.end(true),
-            Item::Abandon => self.end(false),
-        }
+        self.check(n, item)?;
+        self.take(alloc, n, item)?;
         Ok(())
     }
 
@@ -221,6 +213,7 @@ fn is_untried(step: &TileStep) -> bool
 {
     match step {
         TileStep::RowStart => true,
+        TileStep::Lrf { .. } => true,
         _ => false,
     }
 }
@@ -265,13 +258,13 @@ pub fn code_by<W: Writer + Drop>(
         tile: TileState::new(alloc, unit, tile)?,
         writer,
         marks: Vec::new(alloc),
-        begun: Vec::new(alloc),
-        costs: Vec::new(alloc),
+        costs: TrialCosts::new(alloc),
     };
     let script = &unit.scripts[tile];
     coder.code_items(alloc, &script.items)?;
     let TileCoder { writer, costs, .. } = coder;
-    Ok((writer, costs))
+    let TrialCosts { all, .. } = costs;
+    Ok((writer, all))
 }
 
 // A new encoder that gets a recorder's tokens.

@@ -9,6 +9,9 @@ pub enum Place {
     /// The tables that distributions start from.
     Tables,
 
+    /// The scans of coefficients.
+    Scans,
+
     /// The sequence.
     Sequence,
 
@@ -46,7 +49,7 @@ pub enum UnitError {
     Refused { place: Place, rule: Rule },
 
     /// A trial ends that has not begun, has not ended where the script ends (the place after the last item), or has an
-    /// item in another superblock. Nothing is sent.
+    /// item in another superblock, a row that begins or a filter of loop restoration. Nothing is sent.
     #[error("bad script")]
     BadScript { tile: u32, item: usize },
 

@@ -117,7 +117,11 @@ impl<'u> TileState<'u> {
     }
 
     // Codes that the current block has no palette.
-    pub(crate) fn write_palette<W: Writer>(&mut self, w: &mut W, on: bool) -> Result<(), OutOfMemory>
+    pub(crate) fn write_palette<W: Writer>(
+        &mut self,
+        w: &mut W,
+        on: bool,
+    ) -> Result<(), OutOfMemory>
         requires rules { first_broken (rules (Palette on) (tile_of self.old)) ≡ None }
         requires early { (W.position w.old).shift ≤ 2 ^ 28 }
         ensures { Writes W.Known result (Palette on) w.old w.new self.old self.new }

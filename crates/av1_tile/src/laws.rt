@@ -1,5 +1,5 @@
 // Laws of steps and of lists of steps. Each function is a theorem: it takes nothing and does nothing.
-ghost use Rattle.std.specs.Prelude.{◌≡◌, ℕ, ◌≤◌, List, [], ◌∷◌, ◌++◌, None, Some, map, length};
+ghost use Rattle.std.specs.Prelude.{◌≡◌, ℕ, ◌≤◌, List, [], ◌∷◌, ◌++◌, true, None, Some, map, length};
 ghost use Rattle.av1_model.specs.Interval.{final_bytes};
 ghost use Rattle.av1_model.specs.Reading.{Coding};
 ghost use Rattle.av1_model.specs.Syntax.{Leads};
@@ -13,6 +13,13 @@ ghost use Rattle.av1_tile.specs.Step.{Question, question_of, rules, syntax_of, s
 ghost use Rattle.av1_tile.specs.Script.{after_all, first_broken_step, read_steps};
 ghost use Rattle.av1_tile.specs.Kept.{IsKept};
 ghost use Rattle.av1_tile.specs.Sound.{IsSound};
+ghost use Rattle.av1_geometry.specs.declared.block_offset.TileBlockOffset.{TileBlockOffset};
+ghost use Rattle.av1_tile.specs.declared.unit.Item.{Item};
+ghost use Rattle.av1_tile.specs.declared.unit.Item.TheVariants.{Begin, Abandon};
+ghost use Rattle.av1_tile.specs.Items.{Stage, TakesAll, ends_its_own};
+ghost use Rattle.av1_tile.specs.State.{tile_of};
+
+use av1_ec::Writer;
 
 /// In each state that a tile can have, for each step that breaks no rule there is exactly one list of symbols that leads a reader to it. A writer that was refused
 /// has stored a front of them. A step with no fault after some number of bits has none after fewer.
@@ -41,4 +48,11 @@ pub fn law_of_reading_steps()
 pub fn law_of_read_steps()
     ensures { (at : Coding Tile) (bytes : List ℕ) (questions : List Question) (steps : List TileStep) (end : Coding Tile) → IsSound at → read_steps questions bytes at ≡ Some (steps, end) →
         (map question_of steps ≡ questions) × (first_broken_step 0 at steps ≡ None) × (end ≡ after_all at steps) }
+{}
+
+/// A trial that is given up leaves no trace, whatever trials begin in it and are kept or given up: the tile, the writer's position and
+/// the marks are those of its beginning. The items are taken as `write_item` takes them.
+pub fn law_of_trials<W: Writer>()
+    ensures { (place : TileBlockOffset) (items : List Item) (from to : Stage W) → ends_its_own 0 items ≡ true → TakesAll W.Known from to (Begin place ∷ (items ++ Abandon ∷ [])) →
+        (tile_of to.tile ≡ tile_of from.tile) × (W.position to.writer ≡ W.position from.writer) × (to.marks ≡ from.marks) }
 {}

@@ -7,32 +7,46 @@
 //! - `tile`: the state of a tile, and one step in it (`write_step`)
 //! - `block_steps`: the steps that begin rows and blocks, part blocks and skip them
 //! - `intra_steps`: the steps that say how intra blocks are predicted
-//! - `filter_steps`: the steps of the current block for filters, segments and palettes
+//! - `angle_steps`: the steps that say more of it: angles, and factors of chroma from luma
+//! - `filter_steps`: the steps of the current block for filters and palettes
+//! - `delta_steps`: the steps of the current block for its segment and for the levels of the loop filter
+//! - `transform_steps`: the steps of the sizes of transforms
+//! - `coeff_steps`: the steps of transform blocks: their coefficients
+//! - `restoration_steps`: the step that codes the filter of a restoration unit
+//! - `item`: one item of a script in it: a step, or the beginning or end of a trial (`write_item`)
 //! - `trial`: what a trial keeps, and going back to it
 //! - `check`: what is wrong with a step (`check_step`)
 //! - `place`: where the tiles of a frame lie
+//! - `costs`: what trials cost
 //! - `report`, `error`: what is answered
 //! - `laws`: theorems of steps and of lists of steps
 #![tactic(auto)]
 
+mod angle_steps;
 mod block_steps;
 mod check;
 mod coding;
+mod coeff_steps;
+mod costs;
+mod delta_steps;
 mod error;
 mod filter_steps;
 mod intra_steps;
+mod item;
 mod laws;
 mod place;
 mod report;
+mod restoration_steps;
 mod tile;
+mod transform_steps;
 mod trial;
 mod unit;
 
 pub use check::check_step;
 pub use coding::{CodedTile, code_by, code_tile};
 pub use error::{Place, StepFault, UnitError};
-pub use laws::{law_of_read_steps, law_of_reading_steps, law_of_steps};
+pub use laws::{law_of_read_steps, law_of_reading_steps, law_of_steps, law_of_trials};
 pub use report::{TileReport, TrialCost};
 pub use tile::TileState;
 pub use trial::TrialMark;
-pub use unit::{Item, TileScript, TileStep, Unit, Via};
+pub use unit::{Item, Levels, TileScript, TileStep, Unit, Via};

@@ -7,12 +7,13 @@ ghost use Rattle.av1_tile.specs.Kept.{IsKept};
 ghost use Rattle.av1_tile.specs.Place.{tile_at};
 
 use crate::place::TileSides;
+use crate::restoration_steps::first_planes;
 use crate::{TileStep, Unit};
 use av1_blocks::{BlockContext, FrameBlocks};
 use av1_cdf::CDFContext;
 use av1_ec::Writer;
 use av1_geometry::{BlockOffset, BlockSize, OutOfMemory, PredictionMode, Rule, TileBlockOffset};
-use av1_syntax::ContextWriter;
+use av1_syntax::{ContextWriter, TileRestorationState};
 use std::alloc::Global;
 
 /// The state of a tile of a unit: what decides how the next step is coded. It moves on by the steps that are written
@@ -24,6 +25,9 @@ pub struct TileState<'u> {
     /// The grid and its edges, the context of the distributions, and the log of what trials changed in it.
     pub cw: ContextWriter,
 
+    /// What the next filters of each plane refer to.
+    pub rs: TileRestorationState,
+
     /// The block that steps speak of.
     pub current: Option<(TileBlockOffset, BlockSize)>,
 
@@ -34,15 +38,15 @@ pub struct TileState<'u> {
     number: u32,
 
     ghost cdfs: { AreCdfs cw.fc },
-    ghost kept: { IsKept (tile_at unit.now number cw current uv) },
+    ghost kept: { IsKept (tile_at unit.now number cw rs current uv) },
 }
 
 impl<'u> TileState<'u> {
     ghost use Rattle.av1_geometry.specs.Rules.{first_broken};
     ghost use Rattle.av1_tile.specs.Given.{given_of, tile_count, IsGiven};
     ghost use Rattle.av1_tile.specs.State.{tile_of, log_of};
-    ghost use Rattle.av1_tile.specs.Step.{entered, is_inside, rules, step_fault};
-    ghost use Rattle.av1_tile.specs.Tile.{with_numbers};
+    ghost use Rattle.av1_tile.specs.Step.{entered, rules, step_fault};
+    ghost use Rattle.av1_tile.specs.Tile.{is_inside, with_numbers};
     ghost use Rattle.av1_tile.specs.TileBytes.{begin};
     ghost use Rattle.av1_tile.specs.Writing.{Writes, WroteStep};
 
@@ -58,6 +62,7 @@ impl<'u> TileState<'u> {
         Ok(TileState {
             unit,
             cw: ContextWriter::new(alloc, fc, BlockContext::new(blocks)),
+            rs: first_planes(&unit.fs),
             current: None,
             uv: None,
             number: tile as u32,
@@ -89,12 +94,27 @@ impl<'u> TileState<'u> {
                 self.check_partition(*x, *y, *size, *answer)
             }
             TileStep::Skip { answer } => self.check_skip(*answer),
+            TileStep::Segment { answer } => self.check_segment(*answer),
             TileStep::IntraModeKf { answer } => self.check_intra_mode_kf(*answer),
             TileStep::UvMode { answer } => self.check_uv_mode(*answer),
             TileStep::IntraMode { answer } => self.check_intra_mode(*answer),
             TileStep::Cdef { answer } => self.check_cdef(*answer),
+            TileStep::DeltaLf { answer } => self.check_delta_lf(*answer),
+            TileStep::AngleDelta { chroma, answer } => self.check_angle_delta(*chroma, *answer),
+            TileStep::CflAlphas { answer } => self.check_cfl_alphas(*answer),
             TileStep::FilterIntra { answer } => self.check_filter_intra(*answer),
             TileStep::Palette { answer } => self.check_palette(*answer),
+            TileStep::TxNote => self.check_tx_note(),
+            TileStep::TxIntra { answer } => self.check_tx_intra(*answer),
+            TileStep::TxInter { answer } => self.check_tx_inter(*answer),
+            TileStep::Coeffs {
+                plane,
+                x,
+                y,
+                tx_type,
+                answer,
+            } => self.check_coeffs(*plane, *x, *y, *tx_type, answer),
+            TileStep::Lrf { plane, answer } => self.check_lrf(*plane, *answer),
         }
     }
 
@@ -131,12 +151,30 @@ impl<'u> TileState<'u> {
                 self.write_partition(w, *x, *y, *size, *answer)
             }
             TileStep::Skip { answer } => self.write_skip(w, *answer),
+            TileStep::Segment { answer } => self.write_segment(w, *answer),
             TileStep::IntraModeKf { answer } => self.write_intra_mode_kf(w, *answer),
             TileStep::UvMode { answer } => self.write_uv_mode(w, *answer),
             TileStep::IntraMode { answer } => self.write_intra_mode(w, *answer),
             TileStep::Cdef { answer } => self.write_cdef(w, *answer),
+            TileStep::DeltaLf { answer } => self.write_delta_lf(w, *answer),
+            TileStep::AngleDelta { chroma, answer } => self.write_angle_delta(w, *chroma, *answer),
+            TileStep::CflAlphas { answer } => self.write_cfl_alphas(w, *answer),
             TileStep::FilterIntra { answer } => self.write_filter_intra(w, *answer),
             TileStep::Palette { answer } => self.write_palette(w, *answer),
+            TileStep::TxNote => {
+                self.enter_tx_note();
+                Ok(())
+            }
+            TileStep::TxIntra { answer } => self.write_tx_intra(w, *answer),
+            TileStep::TxInter { answer } => self.write_tx_inter(w, *answer),
+            TileStep::Coeffs {
+                plane,
+                x,
+                y,
+                tx_type,
+                answer,
+            } => self.write_coeffs(w, *plane, *x, *y, *tx_type, answer),
+            TileStep::Lrf { plane, answer } => self.write_lrf(w, *plane, *answer),
         }
     }
 }

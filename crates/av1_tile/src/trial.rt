@@ -2,7 +2,7 @@
 ghost use Rattle.std.specs.Prelude.{◌≡◌, ◌≤◌, ◌/◌, ◌*◌, ℕ, List, true, IfOk};
 ghost use Rattle.av1_cdf.specs.Log.{IsReached as HasSaves, IsWithin, undone};
 ghost use Rattle.av1_cdf.specs.Context.{AreCdfs};
-ghost use Rattle.av1_tile.specs.Coder.{IsMarkOf, WentBack};
+ghost use Rattle.av1_tile.specs.Marks.{IsMarkOf, WentBack};
 ghost use Rattle.av1_tile.specs.Kept.{IsKept};
 
 use crate::tile::TileState;
@@ -32,12 +32,25 @@ pub struct TrialMark {
     pub uv: Option<PredictionMode>,
 }
 
+impl TrialMark {
+    ghost use Rattle.std.specs.Prelude.{◌-◌};
+    ghost use Rattle.av1_ec.specs.Rate.{tell_frac_at};
+
+    // How much a writer told since the mark.
+    pub(crate) fn told_since<W: Writer>(&self, w: &W) -> u32
+        requires { self.now.tell ≤ tell_frac_at (W.position w.now) }
+        ensures { result ≡ tell_frac_at (W.position w.now) - self.now.tell }
+    {
+        w.tell_frac() - self.tell
+    }
+}
+
 impl<'u> TileState<'u> {
     ghost use Rattle.av1_cdf.specs.declared.log.CDFContextCheckpoint.{CDFContextCheckpoint};
     ghost use Rattle.av1_ec.specs.declared.storage.WriterCheckpoint.{WriterCheckpoint};
-    ghost use Rattle.av1_tile.specs.Coder.{back_to, IsOfTile};
+    ghost use Rattle.av1_tile.specs.Marks.{back_to, IsOfTile};
     ghost use Rattle.av1_tile.specs.State.{tile_of, log_of};
-    ghost use Rattle.av1_tile.specs.Step.{is_inside};
+    ghost use Rattle.av1_tile.specs.Tile.{is_inside};
 
     // What a trial keeps that begins now, at a place inside the tile.
     pub(crate) fn mark<W: Writer>(

@@ -2,8 +2,12 @@
 ghost use Rattle.std.specs.Prelude.{List};
 
 use av1_cdf::Tables;
+use av1_coef::Scans;
 use av1_frame::{FrameInvariants, FrameState, Metadata, Refs};
-use av1_geometry::{BlockSize, PartitionType, PredictionMode, TileBlockOffset};
+use av1_geometry::{
+    BlockSize, FRAME_LF_COUNT, PartitionType, PredictionMode, TileBlockOffset, TxSize, TxType,
+};
+use av1_syntax::RestorationFilter;
 use std::marker::Model;
 
 /// One temporal unit: a frame, what its headers say, and what is coded in its tiles.
@@ -11,6 +15,9 @@ use std::marker::Model;
 pub struct Unit {
     /// What the distributions start from: four sets of 5528 numbers, for quantizers up to 20, 60, 120 and 255.
     pub tables: Tables,
+
+    /// The orders of coefficients: for each of the 19 sizes of transforms, one for each class of types.
+    pub scans: Scans,
 
     /// The sequence and the frame.
     pub fi: FrameInvariants,
@@ -47,7 +54,7 @@ impl Model for TileScript {
 }
 
 /// One item of a script.
-#[derive(Clone, Copy, Debug, PartialEq, Eq)]
+#[derive(Debug, Drop)]
 pub enum Item {
     /// Something is coded, or becomes the current block.
     Step(TileStep),
@@ -65,7 +72,7 @@ pub enum Item {
 /// One step: a question, which the reader is given, and its answer, which the bytes hold.
 ///
 /// Places count 4x4 luma blocks from the corner of the tile.
-#[derive(Clone, Copy, Debug, PartialEq, Eq)]
+#[derive(Debug, Drop)]
 pub enum TileStep {
     /// A row of superblocks begins. Nothing is coded.
     RowStart,
@@ -90,6 +97,12 @@ pub enum TileStep {
         answer: bool,
     },
 
+    /// Which segment the current block belongs to (`segment_id`, AV1 specification 5.11.9). Of a skipped block nothing is coded: it is
+    /// the predicted one.
+    Segment {
+        answer: u8,
+    },
+
     /// The luma mode of the current block in an intra frame (`intra_frame_y_mode`, AV1 specification 5.11.7).
     IntraModeKf {
         answer: PredictionMode,
@@ -110,6 +123,24 @@ pub enum TileStep {
         answer: u8,
     },
 
+    /// What the current block adds to the levels of the loop filter: both directions of luma, then the planes of chroma, where one
+    /// delta is coded for all it is the first (`delta_lf_abs`, AV1 specification 5.11.13).
+    DeltaLf {
+        answer: [i8; FRAME_LF_COUNT],
+    },
+
+    /// How far the direction of a mode of the current block is turned, in steps of three degrees: of the chroma mode, or of the luma
+    /// mode (`angle_delta_uv` and `angle_delta_y`, AV1 specification 5.11.43 and 5.11.42).
+    AngleDelta {
+        chroma: bool,
+        answer: i8,
+    },
+
+    /// The factors by which both planes of chroma are predicted from luma, in eighths (`cfl_alphas`, AV1 specification 5.11.45).
+    CflAlphas {
+        answer: (i16, i16),
+    },
+
     /// That the current block has no filter intra (`use_filter_intra`, AV1 specification 5.11.24): the answer is false.
     FilterIntra {
         answer: bool,
@@ -120,6 +151,51 @@ pub enum TileStep {
     Palette {
         answer: bool,
     },
+
+    /// The transforms of the current block are entered in the edges (`read_block_tx_size`, AV1 specification 5.11.16). Nothing is
+    /// coded.
+    TxNote,
+
+    /// The size of the transforms of the current block, which is an intra block (`tx_depth`, AV1 specification 5.11.15).
+    TxIntra {
+        answer: TxSize,
+    },
+
+    /// Whether the largest transform of the current block, which is an inter block, is split (`txfm_split`, AV1 specification
+    /// 5.11.17).
+    TxInter {
+        answer: bool,
+    },
+
+    /// The coefficients of a transform block of the current block (`coeffs`, AV1 specification 5.11.39). The type of the transform
+    /// is coded in luma, plane 0, and given in chroma.
+    Coeffs {
+        plane: usize,
+        x: usize,
+        y: usize,
+        tx_type: TxType,
+        answer: Levels,
+    },
+
+    /// The filter of a unit of loop restoration in a plane (`lr_unit`, AV1 specification 5.11.58). It comes in no trial.
+    Lrf {
+        plane: usize,
+        answer: RestorationFilter,
+    },
+}
+
+/// The coefficients of a transform block in the order of its scan, up to the last that is not 0.
+#[derive(Debug, Drop)]
+pub struct Levels {
+    pub levels: Vec<i32>,
+}
+
+impl Model for Levels {
+    ghost use Rattle.std.specs.Prelude.{ℤ, List};
+
+    ghost Value = { List ℤ };
+
+    ghost view = { λ s. s.levels.items };
 }
 
 /// The way of a tile's symbols to its bytes. It changes no byte.

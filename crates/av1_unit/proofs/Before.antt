@@ -11,12 +11,12 @@ use Rattle.av1_frame.specs.declared.sequence.Sequence.{Sequence}
 use Rattle.av1_tile.specs.declared.error.Place.TheVariants as places
 use Rattle.av1_tile.specs.declared.error.UnitError.{UnitError}
 use Rattle.av1_unit.specs.Checked.{IsChecked}
-use Rattle.av1_unit.specs.Findings.{broken_at, first_of, message_wrong, messages_wrong, places_before, script_rules, Finds}
+use Rattle.av1_unit.specs.Findings.{broken_at, first_of, message_wrong, messages_wrong, places_before, scans_wrong, script_rules, Finds}
 use Rattle.av1_unit.specs.Plain.{PlainUnit}
 use Rattle.av1_unit.proofs.Places.{first_of-here, first_of-next, right_more, wrong_here}
 use Rattle.av1_unit.proofs.Written.{checked_unit}
 
--- the places from the sequence on, from the frame on, and so on
+-- the places from the scans on, from the sequence on, and so on
 pub from_scripts : PlainUnit → List (Option UnitError)
 from_scripts u = broken_at places.Scripts (script_rules u) ∷ []
 
@@ -29,10 +29,17 @@ from_frame u = broken_at places.Frame (frame_rules u.given.fi u.given.fs u.given
 pub from_sequence : PlainUnit → List (Option UnitError)
 from_sequence u = broken_at places.Sequence (sequence_rules u.given.fi.sequence) ∷ from_frame u
 
+pub from_scans : PlainUnit → List (Option UnitError)
+from_scans u = scans_wrong u ∷ from_sequence u
+
 module _ (u : PlainUnit) where
-  pub past_tables : broken_at places.Tables (table_rules u.given.tables) ≡ None → first_of (places_before u) ≡ first_of (from_sequence u)
-  unfolding places_before from_sequence from_frame from_messages from_scripts
-  past_tables h = first_of-next (broken_at places.Tables (table_rules u.given.tables)) (from_sequence u) h
+  pub past_tables : broken_at places.Tables (table_rules u.given.tables) ≡ None → first_of (places_before u) ≡ first_of (from_scans u)
+  unfolding places_before from_scans from_sequence from_frame from_messages from_scripts
+  past_tables h = first_of-next (broken_at places.Tables (table_rules u.given.tables)) (from_scans u) h
+
+  pub past_scans : scans_wrong u ≡ None → first_of (from_scans u) ≡ first_of (from_sequence u)
+  unfolding from_scans
+  past_scans h = first_of-next (scans_wrong u) (from_sequence u) h
 
   pub past_sequence : broken_at places.Sequence (sequence_rules u.given.fi.sequence) ≡ None → first_of (from_sequence u) ≡ first_of (from_frame u)
   unfolding from_sequence
@@ -47,8 +54,12 @@ module _ (u : PlainUnit) where
   past_messages h = first_of-next (messages_wrong u.given.fi.sequence (enumerate_from 0 u.given.metadata)) (from_scripts u) h
 
   pub at_tables : (e : UnitError) → broken_at places.Tables (table_rules u.given.tables) ≡ Some e → first_of (places_before u) ≡ Some e
-  unfolding places_before from_sequence from_frame from_messages from_scripts
-  at_tables e h = first_of-here (broken_at places.Tables (table_rules u.given.tables)) (from_sequence u) e h
+  unfolding places_before from_scans from_sequence from_frame from_messages from_scripts
+  at_tables e h = first_of-here (broken_at places.Tables (table_rules u.given.tables)) (from_scans u) e h
+
+  pub at_scans : (e : UnitError) → scans_wrong u ≡ Some e → first_of (from_scans u) ≡ Some e
+  unfolding from_scans
+  at_scans e h = first_of-here (scans_wrong u) (from_sequence u) e h
 
   pub at_sequence : (e : UnitError) → broken_at places.Sequence (sequence_rules u.given.fi.sequence) ≡ Some e → first_of (from_sequence u) ≡ Some e
   unfolding from_sequence

@@ -4,6 +4,7 @@ use Rattle.std.specs.Prelude.{◌==◌}
 use Rattle.std.specs.List.{enumerate_from}
 use Rattle.std.proofs.lemmas.Bool.Decides.{nat_tests}
 use Rattle.av1_cdf.specs.Tables.{table_rules}
+use Rattle.av1_coef.specs.Scans.{scans_rules}
 use Rattle.av1_frame.specs.FrameRules.{frame_rules}
 use Rattle.av1_frame.specs.MetadataRules.{metadata_rules}
 use Rattle.av1_frame.specs.SequenceRules.{sequence_rules}
@@ -18,7 +19,7 @@ use Rattle.av1_tile.specs.declared.error.UnitError.{UnitError}
 use Rattle.av1_tile.specs.declared.error.UnitError.TheVariants.{OutOfMemory, Refused, SinkFault, TooLong}
 use Rattle.av1_tile.specs.declared.report.TileReport.{TileReport}
 use Rattle.av1_tile.specs.declared.unit.Item.{Item}
-use Rattle.av1_tile.specs.Given.{Given, tile_count, IsGiven}
+use Rattle.av1_tile.specs.Given.{broken_scan_rule, Given, tile_count, IsGiven}
 use Rattle.av1_tile.specs.TileBytes.{ending, tile_report, wrong_in}
 use Rattle.av1_unit.specs.Checked.{IsChecked}
 use Rattle.av1_unit.specs.Coded.{Numbered, numbered, report_of, tiles_of, told_of}
@@ -125,16 +126,18 @@ same_count n m h = tested (n == m) refl h
 
 -- what is known where nothing is wrong before the scripts
 pub checked_unit : (u : PlainUnit) → first_of (places_before u) ≡ None → IsChecked u
-unfolding places_before
+unfolding places_before broken_scan_rule
 checked_unit u h =
     let a = parted (broken_at places.Tables (table_rules u.given.tables)) _ h in
-    let b = parted (broken_at places.Sequence (sequence_rules u.given.fi.sequence)) _ a.1 in
+    let s = parted (broken_at places.Scans (scans_rules u.given.scans)) _ a.1 in
+    let b = parted (broken_at places.Sequence (sequence_rules u.given.fi.sequence)) _ s.1 in
     let c = parted (broken_at places.Frame (frame_rules u.given.fi u.given.fs u.given.refs)) _ b.1 in
     let d = parted (messages_wrong u.given.fi.sequence (enumerate_from 0 u.given.metadata)) _ c.1 in
     let e = parted (broken_at places.Scripts (script_rules u)) [] d.1 in
     record {
       given = record {
         tables = not_broken places.Tables (table_rules u.given.tables) a.0;
+        scans = not_broken places.Scans (scans_rules u.given.scans) s.0;
         sequence = not_broken places.Sequence (sequence_rules u.given.fi.sequence) b.0;
         frame = not_broken places.Frame (frame_rules u.given.fi u.given.fs u.given.refs) c.0;
       };
@@ -208,15 +211,16 @@ no_sink_in_lengths n (o ∷ os) h =
 
 -- nothing that is wrong with a unit is a fault of a sink
 pub no_sink : (u : PlainUnit) → first_refusal u ≡ Some SinkFault → ⊥
-unfolding first_refusal places_before places_behind
+unfolding first_refusal places_before places_behind broken_scan_rule
 no_sink u =
     no_sink_in (broken_at places.Tables (table_rules u.given.tables)) _ (no_sink_in_rules places.Tables (table_rules u.given.tables))
+    (no_sink_in (broken_at places.Scans (scans_rules u.given.scans)) _ (no_sink_in_rules places.Scans (scans_rules u.given.scans))
     (no_sink_in (broken_at places.Sequence (sequence_rules u.given.fi.sequence)) _ (no_sink_in_rules places.Sequence (sequence_rules u.given.fi.sequence))
     (no_sink_in (broken_at places.Frame (frame_rules u.given.fi u.given.fs u.given.refs)) _ (no_sink_in_rules places.Frame (frame_rules u.given.fi u.given.fs u.given.refs))
     (no_sink_in (messages_wrong u.given.fi.sequence (enumerate_from 0 u.given.metadata)) _ (no_sink_in_messages u.given.fi.sequence 0 u.given.metadata)
     (no_sink_in (broken_at places.Scripts (script_rules u)) _ (no_sink_in_rules places.Scripts (script_rules u))
     (no_sink_in (scripts_wrong u.given (numbered u)) _ (no_sink_in_scripts u.given 0 u.scripts)
-    (no_sink_in (lengths_wrong 0 (obus u.given (tiles_of u.given (numbered u)))) [] (no_sink_in_lengths 0 (obus u.given (tiles_of u.given (numbered u)))) (λ e. cc)))))))
+    (no_sink_in (lengths_wrong 0 (obus u.given (tiles_of u.given (numbered u)))) [] (no_sink_in_lengths 0 (obus u.given (tiles_of u.given (numbered u)))) (λ e. cc))))))))
 
 -- an error of a unit is no fault of a sink
 pub not_sink : (u : PlainUnit) (e : UnitError) → (e ≡ OutOfMemory) ⊎ (first_refusal u ≡ Some e) → e ≡ SinkFault → ⊥

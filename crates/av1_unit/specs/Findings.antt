@@ -12,7 +12,7 @@ use Rattle.av1_tile.specs.declared.error.Place.{Place}
 use Rattle.av1_tile.specs.declared.error.Place.TheVariants as places
 use Rattle.av1_tile.specs.declared.error.UnitError.{UnitError}
 use Rattle.av1_tile.specs.declared.error.UnitError.TheVariants.{Refused, TooLong, OutOfMemory}
-use Rattle.av1_tile.specs.Given.{Given, tile_count}
+use Rattle.av1_tile.specs.Given.{Given, broken_scan_rule, tile_count}
 use Rattle.av1_tile.specs.TileBytes.{wrong_in}
 use Rattle.av1_unit.specs.Coded.{Numbered, numbered, tiles_of}
 use Rattle.av1_unit.specs.Framing.{Obu, obus}
@@ -27,6 +27,10 @@ first_of (Some wrong ∷ places) = Some wrong
 -- a place breaks one of its rules
 abbrev pub broken_at : Place → List Check → Option UnitError
 broken_at place rules = option_map (Refused place) (first_broken rules)
+
+-- the scans break one of theirs
+abbrev pub scans_wrong : PlainUnit → Option UnitError
+scans_wrong u = option_map (Refused places.Scans) (broken_scan_rule u.given.scans)
 
 -- a metadata OBU under its sequence, by its number
 abbrev pub message_wrong : Sequence → ℕ × Metadata → Option UnitError
@@ -55,6 +59,7 @@ lengths_wrong n os = first_of (map (λ o. length_wrong o.0 o.1.size) (enumerate_
 unfoldable pub places_before : PlainUnit → List (Option UnitError)
 places_before u =
     broken_at places.Tables (table_rules u.given.tables)
+    ∷ scans_wrong u
     ∷ broken_at places.Sequence (sequence_rules u.given.fi.sequence)
     ∷ broken_at places.Frame (frame_rules u.given.fi u.given.fs u.given.refs)
     ∷ messages_wrong u.given.fi.sequence (enumerate_from 0 u.given.metadata)

@@ -3,12 +3,13 @@ ghost use Rattle.std.specs.Prelude.{◌≡◌, option_map, OnOk};
 ghost use Rattle.std.specs.List.{enumerate_from};
 ghost use Rattle.av1_geometry.specs.Rules.{first_broken};
 ghost use Rattle.av1_tile.specs.declared.error.UnitError.TheVariants.{Refused};
-ghost use Rattle.av1_tile.specs.Given.{IsCut};
+ghost use Rattle.av1_tile.specs.Given.{IsCut, broken_scan_rule};
 ghost use Rattle.av1_unit.specs.Checked.{IsChecked};
 ghost use Rattle.av1_unit.specs.Findings.{Finds, first_of, messages_wrong, places_before, script_rules};
 ghost use Rattle.av1_unit.specs.Plain.{plain};
 
 use av1_cdf::check_tables;
+use av1_coef::check_scans;
 use av1_geometry::Rule;
 use av1_header::{TilingInfo, check_frame, check_metadata, check_sequence};
 use av1_tile::{Place, Unit, UnitError};
@@ -19,10 +20,18 @@ pub(crate) fn check_unit(unit: &Unit) -> Result<(), UnitError>
     ensures checked { OnOk result (IsChecked (plain unit.now)) }
 {
     check_place(Place::Tables, check_tables(&unit.tables))?;
+    check_place(Place::Scans, broken_scan_rule(unit))?;
     check_place(Place::Sequence, check_sequence(&unit.fi.sequence))?;
     check_place(Place::Frame, check_frame(&unit.fi, &unit.fs, &unit.refs))?;
     check_messages(unit)?;
     check_place(Place::Scripts, check_scripts(unit))
+}
+
+// The first rule that the scans break.
+fn broken_scan_rule(unit: &Unit) -> Option<Rule>
+    ensures { result ≡ broken_scan_rule unit.now.scans }
+{
+    check_scans(&unit.scans)
 }
 
 // The error of a place that breaks this rule.

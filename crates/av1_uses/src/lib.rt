@@ -4,20 +4,23 @@
 //! - `two_symbols`, `cost_of`: av1_ec
 //! - `try_symbol`: av1_ec over a context of av1_cdf
 //! - `one_block`: av1_unit
+//! - `cost_of_skip`: a trial over a tile of av1_unit
 #![tactic(auto)]
 
 ghost use Rattle.std.specs.Prelude.{◌≡◌, ◌+◌, ◌^◌, ◌<◌, ◌≤◌, length, OnOk};
 ghost use Rattle.av1_cdf.specs.Context.{contents};
 ghost use Rattle.av1_cdf.specs.Slots.{slot_of};
 ghost use Rattle.av1_model.specs.Cdf.{IsCdf};
+ghost use Rattle.av1_tile.specs.State.{tile_of};
 
 use av1_bits::{BitWriter, ULEB128Writer};
 use av1_cdf::{CDFContext, CDFContextLog, CDFOffset, Tables};
+use av1_coef::diagonal;
 use av1_ec::{Writer, WriterEncoder, law_of_symbol_lengths};
 use av1_geometry::{BlockSize, ChromaSampling, OutOfMemory};
 use av1_unit::{
-    FrameInvariants, FrameState, Item, Report, Sequence, TileScript, TileStep, Unit, UnitError,
-    Via, unit_bytes,
+    FrameInvariants, FrameState, Item, Report, Sequence, TileScript, TileState, TileStep, Unit,
+    UnitError, Via, check_step, law_of_steps, law_of_trials, unit_bytes,
 };
 use std::alloc::Global;
 
@@ -90,6 +93,7 @@ pub fn one_block(alloc: Global) -> Result<(Vec<u8>, Report), UnitError> {
     sequence.chroma_sampling = ChromaSampling::Cs400;
     let unit = Unit {
         tables: Tables::uniform(alloc)?,
+        scans: diagonal(alloc)?,
         fi: FrameInvariants::new(sequence, 8, 8),
         fs: FrameState::default(),
         refs: [None; 8],
@@ -98,4 +102,30 @@ pub fn one_block(alloc: Global) -> Result<(Vec<u8>, Report), UnitError> {
         scripts: scripts.map_err(|_| OutOfMemory)?,
     };
     unit_bytes(alloc, &unit, Via::Direct)
+}
+
+/// What it costs that the current block is skipped, or that it isn't, in eighths of a bit, by a trial that leaves no trace. There is no answer
+/// where no block is the current one, or where too many bits were written.
+pub fn cost_of_skip<W: Writer>(
+    alloc: Global,
+    state: &mut TileState,
+    w: &mut W,
+    skip: bool,
+) -> Result<Option<u32>, OutOfMemory>
+    ensures tile { OnOk result (tile_of state.new ≡ tile_of state.old) }
+    ensures writer { OnOk result (W.position w.new ≡ W.position w.old) }
+{
+    law_of_steps();
+    law_of_trials::<W>();
+    let Some((place, _)) = state.current else {
+        return Ok(None)
+    };
+    let step = TileStep::Skip { answer: skip };
+    if check_step(state, w.tell(), &step).is_some() {
+        return Ok(None);
+    }
+    let mut marks = Vec::new(alloc);
+    state.write_item(alloc, w, &mut marks, &Item::Begin(place))?;
+    state.write_item(alloc, w, &mut marks, &Item::Step(step))?;
+    state.write_item(alloc, w, &mut marks, &Item::Abandon)
 }

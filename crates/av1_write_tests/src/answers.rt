@@ -1,3 +1,6 @@
+use crate::coefficients::COEFFICIENTS;
+use crate::examples::EXAMPLES;
+use crate::kinds::KINDS;
 use crate::rows::ROWS;
 use av1_bits::{MemSink, MemSource};
 use av1_program::run::run;
@@ -47,10 +50,9 @@ fn answers(
     Ok(())
 }
 
-#[test]
-fn rows_are_answered(rt: HostRuntime) -> Result<(), Fail> {
-    let alloc = rt.alloc();
-    for row in ROWS.split("\n\n") {
+// Each of these rows is answered as it says.
+fn all_are_answered(rt: &impl Abort, alloc: Global, rows: &str) -> Result<(), Fail> {
+    for row in rows.split("\n\n") {
         let (input, want) = row.split_once('\n').unwrap_or(("", ""));
         let (number, told) = want.split_once('\n').unwrap_or(("", ""));
         let number = number.parse::<u8>()?;
@@ -60,9 +62,29 @@ fn rows_are_answered(rt: HostRuntime) -> Result<(), Fail> {
         } else {
             ("", told.as_str())
         };
-        answers(&rt, alloc, source(alloc, input)?, number, out, err)?;
+        answers(rt, alloc, source(alloc, input)?, number, out, err)?;
     }
     Ok(())
+}
+
+#[test]
+fn rows_are_answered(rt: HostRuntime) -> Result<(), Fail> {
+    all_are_answered(&rt, rt.alloc(), ROWS)
+}
+
+#[test]
+fn rows_of_kinds_are_answered(rt: HostRuntime) -> Result<(), Fail> {
+    all_are_answered(&rt, rt.alloc(), KINDS)
+}
+
+#[test]
+fn examples_are_answered(rt: HostRuntime) -> Result<(), Fail> {
+    all_are_answered(&rt, rt.alloc(), EXAMPLES)
+}
+
+#[test]
+fn rows_of_coefficients_are_answered(rt: HostRuntime) -> Result<(), Fail> {
+    all_are_answered(&rt, rt.alloc(), COEFFICIENTS)
 }
 
 #[test]

@@ -1,11 +1,11 @@
 use Rattle.std.proofs.Common.{ap, arith}
 use Rattle.std.proofs.lemmas.Result.{err_from_is_err_and}
 use Rattle.av1_input.specs.Kinds.{list, whole}
-use Rattle.av1_input.proofs.Lists.{at_place, first_item, last_item, next_item, numbers_more, numbers_of, unfit_item}
+use Rattle.av1_input.proofs.Lists.{at_place, first_item, last_item, next_item, lists_more, lists_of, unfit_item}
 use Rattle.av1_input.proofs.tables.read_sets.Goals as goal
 
 pub loop-i-init : goal.loop-i-init
-loop-i-init c = first_item (list (whole 16)).fit c.args.items.items (numbers_of c.new-sets.result.items) (ap numbers_of c.new-sets.ensures.items)
+loop-i-init c = first_item (list (whole 16)).fit c.args.items.items (lists_of c.new-sets.result.items) (ap lists_of c.new-sets.ensures.items)
 
 pub index_mut-requires : goal.index_mut-requires
 index_mut-requires c = omega (arith, c.loop-i.invariant.len)
@@ -18,14 +18,14 @@ returns-in_err-push-in-Ok-clause-err c = let p = err_from_is_err_and c.from_resi
 
 pub returns-in-Err-clause-err : goal.returns-in-Err-clause-err
 returns-in-Err-clause-err c =
-    unfit_item (list (whole 16)).fit c.args.items.items c.loop-i.items.items (numbers_of c.loop-i.sets.items) c.loop-i.i c.take.result c.in-Err.error c.in_item.result c.loop-i.invariant (omega arith)
+    unfit_item (list (whole 16)).fit c.args.items.items c.loop-i.items.items (lists_of c.loop-i.sets.items) c.loop-i.i c.take.result c.in-Err.error c.in_item.result c.loop-i.invariant (omega arith)
     (at_place c.loop-i.items.items c.loop-i.i c.index_mut.result.now c.take.result c.take.ensures.taken c.index_mut.ensures.value) c.in-Err.ensures.err c.in_item.ensures
 
 pub loop-i-preserved : goal.loop-i-preserved
 loop-i-preserved c =
-    next_item (list (whole 16)).fit c.args.items.items c.loop-i.items.items (numbers_of c.loop-i.sets.items) (numbers_of c.push.new.self.items) c.loop-i.i c.take.result c.take.new.self c.in-Ok.set.items c.loop-i.invariant (omega arith)
+    next_item (list (whole 16)).fit c.args.items.items c.loop-i.items.items (lists_of c.loop-i.sets.items) (lists_of c.push.new.self.items) c.loop-i.i c.take.result c.take.new.self c.in-Ok.set.items c.loop-i.invariant (omega arith)
     (at_place c.loop-i.items.items c.loop-i.i c.index_mut.result.now c.take.result c.take.ensures.taken c.index_mut.ensures.value) c.in-Ok.ensures.ok
-    (numbers_more c.loop-i.sets.items c.push.new.self.items c.in-Ok.set c.in_ok-push-in-Ok.ensures.items)
+    (lists_more c.loop-i.sets.items c.push.new.self.items c.in-Ok.set c.in_ok-push-in-Ok.ensures.items)
 
 pub returns-clause-ok : goal.returns-clause-ok
-returns-clause-ok c = last_item (list (whole 16)).fit c.args.items.items c.loop-i.items.items (numbers_of c.loop-i.sets.items) c.loop-i.i c.loop-i.invariant (omega (arith, c.loop-i-test.false))
+returns-clause-ok c = last_item (list (whole 16)).fit c.args.items.items c.loop-i.items.items (lists_of c.loop-i.sets.items) c.loop-i.i c.loop-i.invariant (omega (arith, c.loop-i-test.false))

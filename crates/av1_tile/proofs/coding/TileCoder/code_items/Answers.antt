@@ -1,5 +1,5 @@
-use Rattle.std.proofs.Common.{subst, ◌<◌, ◌∷◌, List, Some, length, take, get_or, arith, rules, ◌≡◌, ◌⊎◌, inl, inr, Err}
-use Rattle.std.proofs.lemmas.List.{get_or_default, take_all}
+use Rattle.std.proofs.Common.{subst, sym, ◌<◌, ◌∷◌, List, Some, length, take, arith, rules, ◌≡◌, ◌⊎◌, inl, inr, Err}
+use Rattle.std.proofs.lemmas.List.{take_all}
 use Rattle.av1_model.specs.Position.{Position}
 use Rattle.av1_tile.specs.declared.error.UnitError.TheVariants.{OutOfMemory}
 use Rattle.av1_tile.specs.declared.unit.Item.{Item}
@@ -15,18 +15,19 @@ loop-i-preserved g c start p s =
     let there : i < length items = omega arith in
     let come = c.loop-i.invariant start p s in
     let done = c.in_ok-code_item.ensures in
-    come_more g.W.Known start p items i _ c.code_item.new.self.tile c.code_item.new.self.writer c.code_item.new.self.marks.items c.code_item.new.self.begun.items c.code_item.new.self.costs.items there (get_or_default items i _ _ there) come.wrong (done.ok start _ come.stands) (done.right start _ come.stands)
+    come_more g.W.Known start p items i c.index-items-i.result c.code_item.new.self.tile c.code_item.new.self.writer c.code_item.new.self.marks.items c.code_item.new.self.costs.begun.items c.code_item.new.self.costs.all.items there (sym c.index-items-i.is) come.wrong (done.ok start _ come.stands) (done.right start _ come.stands)
 
 pub returns-in_err-code_item-clause-err : goal.returns-in_err-code_item-clause-err
 returns-in_err-code_item-clause-err g c =
     let items = c.args.items.now in
     let i = c.loop-i.i in
     let there : i < length items = omega arith in
+    let item = c.index-items-i.result in
     let e = c.in_err-code_item.field-0.0 in
     let wrong : (start : Position) (p : Progress) (s : HasTaken g.W.Known start c.args.self.now p)
-    → ((begin : Position) (q : Progress) → HasTaken g.W.Known begin c.loop-i.self q → (rest : List Item) → first_wrong i q (get_or items i _ ∷ rest) ≡ Some e)
+    → ((begin : Position) (q : Progress) → HasTaken g.W.Known begin c.loop-i.self q → (rest : List Item) → first_wrong i q (item ∷ rest) ≡ Some e)
     → first_wrong 0 p items ≡ Some e =
-    λ start p s here. let come = c.loop-i.invariant start p s in wrong_here p items i _ e there (get_or_default items i _ _ there) come.wrong (here start (moved_all 0 p (take i items)) come.stands) in
+    λ start p s here. let come = c.loop-i.invariant start p s in wrong_here p items i item e there (sym c.index-items-i.is) come.wrong (here start (moved_all 0 p (take i items)) come.stands) in
     let told : (e ≡ OutOfMemory) ⊎ ((start : Position) (p : Progress) → HasTaken g.W.Known start c.args.self.now p → first_wrong 0 p items ≡ Some e) =
     elim c.in_err-code_item.ensures.err [
       | inl m ↦ inl m

@@ -6,4 +6,4 @@ use Rattle.av1_tile.proofs.coding.TileCoder.code_items.Given as goal
 
 abbrev pub invariant-loop-i : goal.invariant-loop-i
 invariant-loop-i g l =
-    (start : Position) (p : Progress) → HasTaken g.W.Known start l.initial.self p → HasCome g.W.Known start p l.items l.i l.self.tile l.self.writer l.self.marks.items l.self.begun.items l.self.costs.items
+    (start : Position) (p : Progress) → HasTaken g.W.Known start l.initial.self p → HasCome g.W.Known start p l.items l.i l.self.tile l.self.writer l.self.marks.items l.self.costs.begun.items l.self.costs.all.items

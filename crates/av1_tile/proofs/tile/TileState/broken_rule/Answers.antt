@@ -1,6 +1,9 @@
-use Rattle.std.proofs.Common.{sym, ◌∙◌, ap}
+use Rattle.std.proofs.Common.{sym, ◌∙◌, ap, w8, rules as search_rules}
+use mir.Val.{SFits}
+use Rattle.std.proofs.lemmas.Int.{to_z-of_z}
 use Rattle.av1_geometry.specs.Rules.{first_broken}
 use Rattle.av1_tile.specs.declared.unit.TileStep.{TileStep}
+use Rattle.av1_tile.specs.declared.unit.TileStep.TheVariants.{AngleDelta}
 use Rattle.av1_tile.specs.State.{tile_of}
 use Rattle.av1_tile.specs.Step.{rules}
 use Rattle.av1_tile.proofs.tile.TileState.broken_rule.Goals as goal
@@ -14,6 +17,9 @@ returns-in-Partition c = c.check_partition.ensures ∙ ap (λ (s : TileStep). fi
 pub returns-in-Skip : goal.returns-in-Skip
 returns-in-Skip c = c.check_skip.ensures ∙ ap (λ (s : TileStep). first_broken (rules s (tile_of c.args.self.now))) (sym c.in-Skip.is)
 
+pub returns-in-Segment : goal.returns-in-Segment
+returns-in-Segment c = c.check_segment.ensures ∙ ap (λ (s : TileStep). first_broken (rules s (tile_of c.args.self.now))) (sym c.in-Segment.is)
+
 pub returns-in-IntraModeKf : goal.returns-in-IntraModeKf
 returns-in-IntraModeKf c = c.check_intra_mode_kf.ensures ∙ ap (λ (s : TileStep). first_broken (rules s (tile_of c.args.self.now))) (sym c.in-IntraModeKf.is)
 
@@ -25,11 +31,40 @@ returns-in-UvMode c = c.check_uv_mode.ensures ∙ ap (λ (s : TileStep). first_b
 
 pub returns-in-IntraMode : goal.returns-in-IntraMode
 returns-in-IntraMode c = c.check_intra_mode.ensures ∙ ap (λ (s : TileStep). first_broken (rules s (tile_of c.args.self.now))) (sym c.in-IntraMode.is)
+
 pub returns-in-Cdef : goal.returns-in-Cdef
 returns-in-Cdef c = c.check_cdef.ensures ∙ ap (λ (s : TileStep). first_broken (rules s (tile_of c.args.self.now))) (sym c.in-Cdef.is)
+
+pub returns-in-DeltaLf : goal.returns-in-DeltaLf
+returns-in-DeltaLf c = c.check_delta_lf.ensures ∙ ap (λ (s : TileStep). first_broken (rules s (tile_of c.args.self.now))) (sym c.in-DeltaLf.is)
+
+pub returns-in-AngleDelta : goal.returns-in-AngleDelta
+returns-in-AngleDelta c =
+    let t = tile_of c.args.self.now in
+    let a = c.in-AngleDelta.answer in
+    let fits : SFits w8 a = search search_rules in
+    c.check_angle_delta.ensures ∙ ap (λ x. first_broken (rules (AngleDelta c.in-AngleDelta.chroma x) t)) (to_z-of_z w8 a fits) ∙ ap (λ (s : TileStep). first_broken (rules s t)) (sym c.in-AngleDelta.is)
+
+pub returns-in-CflAlphas : goal.returns-in-CflAlphas
+returns-in-CflAlphas c = c.check_cfl_alphas.ensures ∙ ap (λ (s : TileStep). first_broken (rules s (tile_of c.args.self.now))) (sym c.in-CflAlphas.is)
 
 pub returns-in-FilterIntra : goal.returns-in-FilterIntra
 returns-in-FilterIntra c = c.check_filter_intra.ensures ∙ ap (λ (s : TileStep). first_broken (rules s (tile_of c.args.self.now))) (sym c.in-FilterIntra.is)
 
 pub returns-in-Palette : goal.returns-in-Palette
 returns-in-Palette c = c.check_palette.ensures ∙ ap (λ (s : TileStep). first_broken (rules s (tile_of c.args.self.now))) (sym c.in-Palette.is)
+
+pub returns-in-TxNote : goal.returns-in-TxNote
+returns-in-TxNote c = c.check_tx_note.ensures ∙ ap (λ (s : TileStep). first_broken (rules s (tile_of c.args.self.now))) (sym c.in-TxNote.is)
+
+pub returns-in-TxIntra : goal.returns-in-TxIntra
+returns-in-TxIntra c = c.check_tx_intra.ensures ∙ ap (λ (s : TileStep). first_broken (rules s (tile_of c.args.self.now))) (sym c.in-TxIntra.is)
+
+pub returns-in-TxInter : goal.returns-in-TxInter
+returns-in-TxInter c = c.check_tx_inter.ensures ∙ ap (λ (s : TileStep). first_broken (rules s (tile_of c.args.self.now))) (sym c.in-TxInter.is)
+
+pub returns-in-Coeffs : goal.returns-in-Coeffs
+returns-in-Coeffs c = c.check_coeffs.ensures ∙ ap (λ (s : TileStep). first_broken (rules s (tile_of c.args.self.now))) (sym c.in-Coeffs.is)
+
+pub returns-in-Lrf : goal.returns-in-Lrf
+returns-in-Lrf c = c.check_lrf.ensures ∙ ap (λ (s : TileStep). first_broken (rules s (tile_of c.args.self.now))) (sym c.in-Lrf.is)

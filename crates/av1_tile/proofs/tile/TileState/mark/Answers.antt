@@ -6,7 +6,7 @@ use Rattle.av1_blocks.specs.Saved.{Saved, saved_of, IsSavedOf}
 use Rattle.av1_blocks.proofs.GivenBack.{gives_back}
 use Rattle.av1_geometry.specs.declared.block_offset.BlockOffset.{BlockOffset}
 use Rattle.av1_geometry.specs.declared.superblock_offset.SuperBlockOffset.{SuperBlockOffset}
-use Rattle.av1_tile.specs.Coder.{IsOfTile}
+use Rattle.av1_tile.specs.Marks.{IsOfTile}
 use Rattle.av1_tile.specs.declared.trial.TrialMark.{TrialMark}
 use Rattle.av1_tile.specs.State.{tile_of, log_of}
 use Rattle.av1_tile.specs.Tile.{Tile, sampling}
@@ -30,6 +30,11 @@ returns g c =
       position = c.checkpoint.ensures.position;
       has_saves = c.checkpoint-2.ensures.reached;
       all_saves = c.checkpoint-2.ensures.last;
+      edges = c.checkpoint-2.ensures.edges;
+      blocks = c.in_ok-save_sb.ensures ∙ ap (λ (x : ℕ). saved_of (record { x = x; y = c.sb_offset.result.y }) t.bc.blocks) c.sb_offset.ensures.x
+          ∙ ap (λ (y : ℕ). saved_of (record { x = c.args.place.0.x / 16; y = y }) t.bc.blocks) c.sb_offset.ensures.y;
+      current_is = refl;
+      uv_is = refl;
       of_tile = marks_tile m t c.args.place c.sb_offset.result refl c.checkpoint-2.ensures.edges c.in_ok-save_sb.ensures c.sb_offset.ensures.x c.sb_offset.ensures.y c.args.self.now.kept c.requires;
       back = marked_back m (log_of c.args.self.now) t c.args.place c.sb_offset.result c.checkpoint-2.ensures.edges c.in_ok-save_sb.ensures refl refl (c.checkpoint-2.ensures.context t.numbers) c.args.self.now.kept;
     }

@@ -17,7 +17,7 @@ pub invariant_of-result : goal.invariant_of-result
 invariant_of-result c =
     let g = given_of c.args.unit.now in
     let numbers : c.new-3.result.fc ≡ numbers_of g = c.new-3.ensures.fc ∙ c.new-fc.ensures in
-    let e : tile_at c.args.unit.now c.args.tile c.new-3.result None None ≡ fresh g c.args.tile (numbers_of g) = search rules in
+    let e : tile_at c.args.unit.now c.args.tile c.new-3.result c.first_planes.result None None ≡ fresh g c.args.tile (numbers_of g) = search rules in
     record {
       cdfs = subst (λ (ns : List ℕ). AreCdfs ns) (sym numbers) (cdfs_of_tables c.args.unit.now.tables c.args.unit.now.fi.base_q_idx c.requires.given.tables);
       kept = subst IsKept (sym e) (fresh_kept g c.args.tile (numbers_of g) c.requires.given c.requires.tile);

@@ -1,14 +1,19 @@
-use Rattle.std.proofs.Common.{◌≡◌, ℕ, ◌^◌, List, [], refl, sym, ap, subst, ◌∙◌, arith}
+use mir.Val.{SFits}
+use Rattle.std.proofs.Common.{◌≡◌, ℕ, ◌^◌, List, [], refl, sym, ap, subst, ◌∙◌, arith, rules, w8}
+use Rattle.std.proofs.lemmas.Int.{to_z-of_z}
 use Rattle.av1_ec.proofs.MovesLaws.{moves_none}
 use Rattle.av1_geometry.specs.declared.block_offset.BlockOffset.{BlockOffset}
 use Rattle.av1_model.specs.Comes.{standing}
 use Rattle.av1_tile.specs.declared.unit.TileStep.{TileStep}
-use Rattle.av1_tile.specs.declared.unit.TileStep.TheVariants.{RowStart, Block}
+use Rattle.av1_tile.specs.declared.unit.TileStep.TheVariants.{RowStart, Block, AngleDelta, TxNote}
 use Rattle.av1_tile.specs.State.{tile_of}
 use Rattle.av1_tile.specs.Step.{block_kind, entered, row_start_kind}
-use Rattle.av1_tile.specs.Tile.{Tile, with_numbers}
+use Rattle.av1_tile.specs.Tile.{Tile, with_numbers, CurrentBlock}
+use Rattle.av1_tile.specs.Writing.{Writes}
+use Rattle.av1_tile.specs.TransformSteps.{note, tx_note_kind}
 use Rattle.av1_tile.proofs.Arms.{writes_whole}
 use Rattle.av1_tile.proofs.StepLaws.{IsAllowed}
+use Rattle.av1_tile.proofs.TransformArms.{note_wrote}
 use Rattle.av1_tile.proofs.tile.TileState.write_allowed.Goals as goal
 
 pub enter_block-requires : goal.enter_block-requires
@@ -20,16 +25,47 @@ write_partition-requires-clause-rules g c = subst (λ (s : TileStep). IsAllowed 
 pub write_skip-requires-clause-rules : goal.write_skip-requires-clause-rules
 write_skip-requires-clause-rules g c = subst (λ (s : TileStep). IsAllowed s (tile_of c.args.self.now)) c.in-Skip.is c.requires.rules
 
+pub write_segment-requires-clause-rules : goal.write_segment-requires-clause-rules
+write_segment-requires-clause-rules g c = subst (λ (s : TileStep). IsAllowed s (tile_of c.args.self.now)) c.in-Segment.is c.requires.rules
+
 pub write_intra_mode_kf-requires-clause-rules : goal.write_intra_mode_kf-requires-clause-rules
 write_intra_mode_kf-requires-clause-rules g c = subst (λ (s : TileStep). IsAllowed s (tile_of c.args.self.now)) c.in-IntraModeKf.is c.requires.rules
+
 pub write_cdef-requires-clause-rules : goal.write_cdef-requires-clause-rules
 write_cdef-requires-clause-rules g c = subst (λ (s : TileStep). IsAllowed s (tile_of c.args.self.now)) c.in-Cdef.is c.requires.rules
+
+pub write_delta_lf-requires-clause-rules : goal.write_delta_lf-requires-clause-rules
+write_delta_lf-requires-clause-rules g c = subst (λ (s : TileStep). IsAllowed s (tile_of c.args.self.now)) c.in-DeltaLf.is c.requires.rules
+
+pub write_angle_delta-requires-clause-rules : goal.write_angle_delta-requires-clause-rules
+write_angle_delta-requires-clause-rules g c =
+    let t = tile_of c.args.self.now in
+    let a = c.in-AngleDelta.answer in
+    let fits : SFits w8 a = search rules in
+    let allowed = subst (λ (s : TileStep). IsAllowed s t) c.in-AngleDelta.is c.requires.rules in
+    subst (λ x. IsAllowed (AngleDelta c.in-AngleDelta.chroma x) t) (sym (to_z-of_z w8 a fits)) allowed
+
+pub returns-in-AngleDelta : goal.returns-in-AngleDelta
+returns-in-AngleDelta g c =
+    let a = c.in-AngleDelta.answer in
+    let fits : SFits w8 a = search rules in
+    subst (λ (s : TileStep). Writes g.W.Known c.write_angle_delta.result s c.args.w.now c.write_angle_delta.new.w c.args.self.now c.write_angle_delta.new.self)
+    (ap (λ x. AngleDelta c.in-AngleDelta.chroma x) (to_z-of_z w8 a fits) ∙ sym c.in-AngleDelta.is) c.write_angle_delta.ensures
+
+pub write_cfl_alphas-requires-clause-rules : goal.write_cfl_alphas-requires-clause-rules
+write_cfl_alphas-requires-clause-rules g c = subst (λ (s : TileStep). IsAllowed s (tile_of c.args.self.now)) c.in-CflAlphas.is c.requires.rules
 
 pub write_filter_intra-requires-clause-rules : goal.write_filter_intra-requires-clause-rules
 write_filter_intra-requires-clause-rules g c = subst (λ (s : TileStep). IsAllowed s (tile_of c.args.self.now)) c.in-FilterIntra.is c.requires.rules
 
 pub write_palette-requires-clause-rules : goal.write_palette-requires-clause-rules
 write_palette-requires-clause-rules g c = subst (λ (s : TileStep). IsAllowed s (tile_of c.args.self.now)) c.in-Palette.is c.requires.rules
+
+pub write_coeffs-requires-clause-rules : goal.write_coeffs-requires-clause-rules
+write_coeffs-requires-clause-rules g c = subst (λ (s : TileStep). IsAllowed s (tile_of c.args.self.now)) c.in-Coeffs.is c.requires.rules
+
+pub write_lrf-requires-clause-rules : goal.write_lrf-requires-clause-rules
+write_lrf-requires-clause-rules g c = subst (λ (s : TileStep). IsAllowed s (tile_of c.args.self.now)) c.in-Lrf.is c.requires.rules
 
 pub returns-in-RowStart : goal.returns-in-RowStart
 returns-in-RowStart g c =
@@ -58,3 +94,17 @@ write_uv_mode-requires-clause-rules g c = subst (λ (s : TileStep). IsAllowed s 
 
 pub write_intra_mode-requires-clause-rules : goal.write_intra_mode-requires-clause-rules
 write_intra_mode-requires-clause-rules g c = subst (λ (s : TileStep). IsAllowed s (tile_of c.args.self.now)) c.in-IntraMode.is c.requires.rules
+
+pub enter_tx_note-requires : goal.enter_tx_note-requires
+enter_tx_note-requires g c = subst (λ (s : TileStep). IsAllowed s (tile_of c.args.self.now)) c.in-TxNote.is c.requires.rules
+
+pub write_tx_intra-requires-clause-rules : goal.write_tx_intra-requires-clause-rules
+write_tx_intra-requires-clause-rules g c = subst (λ (s : TileStep). IsAllowed s (tile_of c.args.self.now)) c.in-TxIntra.is c.requires.rules
+
+pub write_tx_inter-requires-clause-rules : goal.write_tx_inter-requires-clause-rules
+write_tx_inter-requires-clause-rules g c = subst (λ (s : TileStep). IsAllowed s (tile_of c.args.self.now)) c.in-TxInter.is c.requires.rules
+
+pub returns-in-TxNote : goal.returns-in-TxNote
+returns-in-TxNote g c =
+    rw (c.in-TxNote.is)
+    (note_wrote g.W.Known c.args.w.now c.args.self.now c.enter_tx_note.new.self (subst (λ (s : TileStep). IsAllowed s (tile_of c.args.self.now)) c.in-TxNote.is c.requires.rules) c.enter_tx_note.ensures.tile c.enter_tx_note.ensures.log c.args.self.now.cdfs)

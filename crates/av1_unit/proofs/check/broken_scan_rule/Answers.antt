@@ -1,0 +1,6 @@
+use Rattle.av1_tile.specs.Given.{broken_scan_rule}
+use Rattle.av1_unit.proofs.check.broken_scan_rule.Goals as goal
+
+pub returns : goal.returns
+unfolding broken_scan_rule
+returns c = c.check_scans.ensures
