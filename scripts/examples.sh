@@ -1,9 +1,9 @@
 #!/bin/sh
 # examples.sh [PROGRAM]
 #
-# Runs each unit of examples/ and compares its status and what it prints with the file NAME.out beside it. PROGRAM is a built
-# av1_write, by default the one that `rt run` left in crates/av1_write/out; where there is none, `rt try` runs it without the
-# proofs, half a minute for each unit. Ends with status 1 where one differs.
+# Runs each unit of examples/ and its folders and compares its status and what it prints with the file NAME.out beside it.
+# PROGRAM is a built av1_write, by default the one that `rt run` left in crates/av1_write/out; where there is none, `rt try` runs it
+# without the proofs, half a minute for each unit. Ends with status 1 where one differs.
 set -u
 here=$(CDPATH= cd -- "$(dirname -- "$0")/.." && pwd)
 program=${1:-$here/crates/av1_write/out/av1_write}
@@ -11,7 +11,7 @@ bad=0
 count=0
 room=$(mktemp -d)
 trap 'rm -rf "$room"' EXIT
-for wanted in "$here"/examples/*.out; do
+for wanted in "$here"/examples/*.out "$here"/examples/*/*.out; do
   unit=${wanted%.out}.json
   if [ -x "$program" ]; then
     "$program" write < "$unit" > "$room/out" 2> "$room/err"
