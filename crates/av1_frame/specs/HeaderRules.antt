@@ -23,9 +23,6 @@ sides_fit fi = side_fits fi.width && side_fits fi.height && nat_le (blocks fi.wi
 unfoldable pub frame_is_carried : FrameInvariants → Bool
 frame_is_carried fi = not fi.show_existing_frame && not fi.large_scale_tile && not fi.allow_intrabc && not fi.delta_q_present
 
-unfoldable pub distributions_learn : FrameInvariants → Bool
-distributions_learn fi = not fi.disable_cdf_update
-
 -- a key frame is shown, and a reduced header is that of a key frame
 unfoldable pub showing_fits : FrameInvariants → Bool
 showing_fits fi =
@@ -105,7 +102,6 @@ frame_end_fits fi = implies (fi.sequence.reduced_still_picture_hdr || fi.disable
 unfoldable pub header_rules : FrameInvariants → List (Option RefState) → List Check
 header_rules fi refs =
     rule 21 (frame_is_carried fi)
-    ∷ rule 22 (distributions_learn fi)
     ∷ rule 23 (showing_fits fi)
     ∷ rule 24 (intra_fits fi)
     ∷ rule 25 (primary_fits fi refs)

@@ -3,7 +3,7 @@ ghost use Rattle.std.specs.Prelude.{◌≡◌, ◌+◌, ◌*◌, ◌^◌, ◌≤
 ghost use Rattle.std.specs.List.{list_all};
 ghost use Rattle.av1_geometry.specs.Rules.{first_broken};
 ghost use Rattle.av1_frame.specs.FrameKind.{is_key, is_intra_only, is_switch, is_intra, primary_reference};
-ghost use Rattle.av1_frame.specs.HeaderRules.{header_rules, sides_fit, blocks, side_fits, frame_is_carried, distributions_learn, showing_fits, intra_fits, primary_fits, forces_are_kept, hints_fit, reference_hint_fits, refresh_fits, override_fits, render_fits, place_fits, references_fit, frame_end_fits};
+ghost use Rattle.av1_frame.specs.HeaderRules.{header_rules, sides_fit, blocks, side_fits, frame_is_carried, showing_fits, intra_fits, primary_fits, forces_are_kept, hints_fit, reference_hint_fits, refresh_fits, override_fits, render_fits, place_fits, references_fit, frame_end_fits};
 
 use crate::frame::FrameInvariants;
 use crate::reference::{ALL_REF_FRAMES_MASK, PRIMARY_REF_NONE, RefState, Refs};
@@ -21,9 +21,6 @@ pub(crate) fn broken_header_rule(fi: &FrameInvariants, refs: &Refs) -> Option<Ru
 {
     if !frame_is_carried(fi) {
         return Some(Rule(21));
-    }
-    if !distributions_learn(fi) {
-        return Some(Rule(22));
     }
     if !showing_fits(fi) {
         return Some(Rule(23));
@@ -90,13 +87,6 @@ fn frame_is_carried(fi: &FrameInvariants) -> bool
     ensures { result ≡ frame_is_carried fi.now }
 {
     !fi.show_existing_frame && !fi.large_scale_tile && !fi.allow_intrabc && !fi.delta_q_present
-}
-
-#[tactic(auto, unfolding(crate::specs::HeaderRules::distributions_learn))]
-fn distributions_learn(fi: &FrameInvariants) -> bool
-    ensures { result ≡ distributions_learn fi.now }
-{
-    !fi.disable_cdf_update
 }
 
 fn is_key(frame_type: FrameType) -> bool

@@ -80,7 +80,10 @@ pub const FRAMES: &str = "0
 21 large_scale=1
 21 intrabc=1 tools=1 disable_cdf_update=1
 21 delta_q=1
-22 disable_cdf_update=1 show=0
+0 disable_cdf_update=1
+0 reduced=0 still_picture=0 disable_cdf_update=1
+33 reduced=0 still_picture=0 disable_cdf_update=1 frame_end=0
+23 disable_cdf_update=1 show=0
 23 show=0
 23 showable=1
 23 type=1

@@ -144,8 +144,8 @@ pub start_within : (fi : FrameInvariants) (refs : List (Option RefState)) → si
 unfolding header_rules primary_fits hints_fit refresh_fits references_fit tools_fit
 start_within fi refs sides h tools =
     let n = fi.sequence.order_hint_bits_minus_1 + 1 in
-    let hints = h.1.1.1.1.1.1.0 in
-    let places = both _ _ h.1.1.1.1.1.1.1.1.1.1.0 in
+    let hints = h.1.1.1.1.1.0 in
+    let places = both _ _ h.1.1.1.1.1.1.1.1.1.0 in
     let few : fi.sequence.order_hint_bits_minus_1 ≤ 7 = is_at_most _ _ (both _ _ (both _ _ tools).0).1 in
     record {
       hint_bits = hint_bits_few fi.sequence.enable_order_hint n (omega (arith, few));
@@ -156,12 +156,12 @@ start_within fi refs sides h tools =
           let on = some_hints fi.sequence.enable_order_hint n some in
           subst (λ b. hint_of (slice_index_or refs i None) < 2 ^ (if b then n else 0)) (sym on)
           (hint_within n (slice_index_or refs i None) (entry_passes (reference_hint_fits n) refs None i (both _ _ (then_holds _ _ hints on)).1 refl));
-      primary = small_of _ 7 _ (both _ _ (both _ _ (both _ _ h.1.1.1.1.0).0).0).0 (lit< tt);
-      refresh = small_of _ 255 _ (both _ _ (both _ _ h.1.1.1.1.1.1.1.0).0).0 (lit< tt);
+      primary = small_of _ 7 _ (both _ _ (both _ _ (both _ _ h.1.1.1.0).0).0).0 (lit< tt);
+      refresh = small_of _ 255 _ (both _ _ (both _ _ h.1.1.1.1.1.1.0).0).0 (lit< tt);
       places = λ i within. small_of _ 7 _ (entry_passes (λ place. nat_le place 7) fi.ref_frames 0 i places.0 refl) (lit< tt);
       filter = small_of _ 3 _ places.1 (lit< tt);
       sides = sides_within fi sides;
-      render = render_within fi h.1.1.1.1.1.1.1.1.1.0;
+      render = render_within fi h.1.1.1.1.1.1.1.1.0;
     }
 
 pub quantizer_within : (fi : FrameInvariants) → quantizer_fits fi ≡ true → QuantizerFits fi

@@ -1,9 +1,9 @@
 -- What calls that code the levels of a transform block write.
-use Rattle.std.proofs.Common.{◌≡◌, ℕ, ◌+◌, ◌*◌, ◌<◌, ◌≤◌, List, [], ◌∷◌, zero, suc, true, Result, min, length, map, take, slice_index, replicate, refl, sym, ap, subst, ◌∙◌, arith, inl, inr, ℤ, unsigned_abs}
+use Rattle.std.proofs.Common.{◌≡◌, ℕ, ◌+◌, ◌*◌, ◌<◌, ◌≤◌, List, [], ◌∷◌, zero, suc, Bool, Result, min, length, map, take, slice_index, replicate, refl, sym, ap, subst, ◌∙◌, arith, inl, inr, ℤ, unsigned_abs}
 use Rattle.std.proofs.lemmas.Bool.{cases_lt}
 use Rattle.std.proofs.lemmas.List.{length-take-le, length-replicate, get_or-take, take-map}
 use Rattle.std.proofs.lemmas.Nat.{mul-add-lt}
-use Rattle.av1_cdf.specs.Distribution.{Distribution, coded_by, learnt}
+use Rattle.av1_cdf.specs.Distribution.{Distribution}
 use Rattle.av1_cdf.proofs.Cells.{lt_is, lt_not}
 use Rattle.av1_coef.specs.Contexts.{coded_width, coded_height, coded_area}
 use Rattle.av1_coef.specs.Padded.{in_block, cut, sizes_of, IsPadded, IsRoom}
@@ -14,6 +14,7 @@ use Rattle.av1_model.specs.Comes.{Standing, Comes, Writes, Begins, Wrote}
 use Rattle.av1_model.specs.Element.{Element, after}
 use Rattle.av1_model.specs.Syntax.{Syntax, Leads}
 use Rattle.av1_model.proofs.ComesLaws.{writes_first, begins_first, begins_then, wrote_then}
+use Rattle.av1_syntax.specs.Calls.{Context, coded_in, learnt_in}
 use Rattle.av1_syntax.specs.Coefficients.{value_at, levels_at, sizes_from, base_distribution, range_distribution, sign_distribution, one_dimensional, sizes_element, signs_element, block_element, AreCoded, ArePadded}
 use Rattle.av1_syntax.specs.EndOfBlock.{end_element}
 use Rattle.av1_syntax.specs.Levels.{cut_level}
@@ -22,7 +23,7 @@ use Rattle.av1_syntax.proofs.CoeffReads.{coders, signs_have}
 use Rattle.av1_syntax.proofs.LevelReads.{all_few, levels_read, levels_are, counted_read}
 
 abbrev Numbers : Type 0
-Numbers = Standing (List ℕ)
+Numbers = Standing Context
 
 -- the size of a coefficient
 sizes_at : {T : Type 0} (value : T → ℤ) (coeffs : List T) (p : ℕ) → slice_index (sizes_of value coeffs) p ≡ unsigned_abs (value_at (map value coeffs) p)
@@ -77,7 +78,7 @@ are_padded value coeffs size levels n h e f m padded =
     sizes_taken : {T : Type 0} (value : T → ℤ) (coeffs : List T) (n : ℕ) → sizes_of value (take n coeffs) ≡ take n (sizes_of value coeffs)
     sizes_taken value coeffs n = sym (take-map (λ x. unsigned_abs (value x)) n coeffs)
 
-module _ (size : TxSize) (class : TxClass) (scan : List ℕ) (n : ℕ) (values : List ℤ) (are : AreCoded size class scan n values) (p context : ℕ) (plane : p < 2) (known : context < 3) where
+module _ (by_coded : Bool) (size : TxSize) (class : TxClass) (scan : List ℕ) (n : ℕ) (values : List ℤ) (are : AreCoded size class scan n values) (p context : ℕ) (plane : p < 2) (known : context < 3) where
   abbrev levels : List ℤ
   levels = levels_at values scan n
 
@@ -85,7 +86,7 @@ module _ (size : TxSize) (class : TxClass) (scan : List ℕ) (n : ℕ) (values :
   cuts = sizes_from values scan n 0
 
   abbrev ends : Syntax Distribution ℕ
-  ends = (end_element size p (one_dimensional class)).tree
+  ends = (end_element by_coded size p (one_dimensional class)).tree
 
   abbrev sizes : ℕ → Element Distribution (List ℕ)
   sizes n = sizes_element size p class scan n
@@ -94,7 +95,7 @@ module _ (size : TxSize) (class : TxClass) (scan : List ℕ) (n : ℕ) (values :
   of_number n = after (sizes n) (signs_element p context) (map cut_level)
 
   abbrev block : Syntax Distribution (List ℤ)
-  block = (block_element size p context class scan).tree
+  block = (block_element by_coded size p context class scan).tree
 
   number_leads : Leads (of_number n).tree ((of_number n).symbols levels) levels
   number_leads =
@@ -103,22 +104,22 @@ module _ (size : TxSize) (class : TxClass) (scan : List ℕ) (n : ℕ) (values :
   signs_lead : Leads (signs_element p context cuts).tree ((signs_element p context cuts).symbols levels) levels
   signs_lead = (levels_read (sign_distribution p context) (signs_have p context plane known) [] cuts (all_few levels)).leads levels (levels_are n levels (counted size class scan n values are) n 0 (omega arith))
 
-  came_sizes : (old mid : Numbers) → Writes coded_by (learnt true) ends n old mid → Comes coded_by (learnt true) block (of_number n).tree old mid
-  came_sizes old mid e = writes_first coded_by (learnt true) ends (λ n. (of_number n).tree) n old mid e
+  came_sizes : (old mid : Numbers) → Writes coded_in learnt_in ends n old mid → Comes coded_in learnt_in block (of_number n).tree old mid
+  came_sizes old mid e = writes_first coded_in learnt_in ends (λ n. (of_number n).tree) n old mid e
 
-  came_signs : (old mid late : Numbers) → Writes coded_by (learnt true) (sizes n).tree cuts mid late → Comes coded_by (learnt true) (of_number n).tree (signs_element p context cuts).tree mid late
-  came_signs old mid late s = writes_first coded_by (learnt true) (sizes n).tree (λ s. (signs_element p context s).tree) cuts mid late s
+  came_signs : (old mid late : Numbers) → Writes coded_in learnt_in (sizes n).tree cuts mid late → Comes coded_in learnt_in (of_number n).tree (signs_element p context cuts).tree mid late
+  came_signs old mid late s = writes_first coded_in learnt_in (sizes n).tree (λ s. (signs_element p context s).tree) cuts mid late s
 
-  pub ends_refused : (old new : Numbers) → Begins coded_by (learnt true) ends n old new → Begins coded_by (learnt true) block levels old new
-  ends_refused old new b = begins_first coded_by (learnt true) ends (λ n. (of_number n).tree) n levels ((of_number n).symbols levels) old new number_leads b
+  pub ends_refused : (old new : Numbers) → Begins coded_in learnt_in ends n old new → Begins coded_in learnt_in block levels old new
+  ends_refused old new b = begins_first coded_in learnt_in ends (λ n. (of_number n).tree) n levels ((of_number n).symbols levels) old new number_leads b
 
-  pub block_sizes_refused : (old mid new : Numbers) → Writes coded_by (learnt true) ends n old mid → Begins coded_by (learnt true) (sizes n).tree cuts mid new → Begins coded_by (learnt true) block levels old new
+  pub block_sizes_refused : (old mid new : Numbers) → Writes coded_in learnt_in ends n old mid → Begins coded_in learnt_in (sizes n).tree cuts mid new → Begins coded_in learnt_in block levels old new
   block_sizes_refused old mid new e b =
-      begins_then coded_by (learnt true) block (of_number n).tree levels old mid new (came_sizes old mid e)
-      (begins_first coded_by (learnt true) (sizes n).tree (λ s. (signs_element p context s).tree) cuts levels ((signs_element p context cuts).symbols levels) mid new signs_lead b)
+      begins_then coded_in learnt_in block (of_number n).tree levels old mid new (came_sizes old mid e)
+      (begins_first coded_in learnt_in (sizes n).tree (λ s. (signs_element p context s).tree) cuts levels ((signs_element p context cuts).symbols levels) mid new signs_lead b)
 
-  pub block_wrote : {U E : Type 0} (r : Result U E) (old mid late new : Numbers) → Writes coded_by (learnt true) ends n old mid → Writes coded_by (learnt true) (sizes n).tree cuts mid late →
-      Wrote coded_by (learnt true) r (signs_element p context cuts).tree levels late new → Wrote coded_by (learnt true) r block levels old new
+  pub block_wrote : {U E : Type 0} (r : Result U E) (old mid late new : Numbers) → Writes coded_in learnt_in ends n old mid → Writes coded_in learnt_in (sizes n).tree cuts mid late →
+      Wrote coded_in learnt_in r (signs_element p context cuts).tree levels late new → Wrote coded_in learnt_in r block levels old new
   block_wrote r old mid late new e s w =
-      wrote_then coded_by (learnt true) r block (of_number n).tree levels old mid new (came_sizes old mid e)
-      (wrote_then coded_by (learnt true) r (of_number n).tree (signs_element p context cuts).tree levels mid late new (came_signs old mid late s) w)
+      wrote_then coded_in learnt_in r block (of_number n).tree levels old mid new (came_sizes old mid e)
+      (wrote_then coded_in learnt_in r (of_number n).tree (signs_element p context cuts).tree levels mid late new (came_signs old mid late s) w)

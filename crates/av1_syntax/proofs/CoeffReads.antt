@@ -81,21 +81,23 @@ signs_have p context l m k =
       | false ↦ even_has
     ])
 
-area_within : (size : TxSize) → coded_area size ≤ 2 ^ (area_number size + 4)
-area_within TX_4X4 = omega arith
-area_within _ = omega arith
+area_within : (by_coded : Bool) (size : TxSize) → coded_area size ≤ 2 ^ (area_number by_coded size + 4)
+area_within false TX_4X4 = omega arith
+area_within false _ = omega arith
+area_within true TX_4X4 = omega arith
+area_within true _ = omega arith
 
-pub class_within : (size : TxSize) (end : ℕ) → 1 ≤ end → end ≤ coded_area size → eob_class end ≤ 5 + area_number size
-class_within size end some few =
-    let c = class_few end (area_number size + 4) some (omega (arith, few, area_few size)) (omega (arith, few, area_within size)) in
+pub class_within : (by_coded : Bool) (size : TxSize) (end : ℕ) → 1 ≤ end → end ≤ coded_area size → eob_class end ≤ 5 + area_number by_coded size
+class_within by_coded size end some few =
+    let c = class_few end (area_number by_coded size + 4) some (omega (arith, few, area_few size)) (omega (arith, few, area_within by_coded size)) in
     omega (arith, c)
 
-pub end_reads : (size : TxSize) (p o : ℕ) → p < 2 → o < 2 → Reads HasSymbols (end_element size p o) (λ end. (1 ≤ end) × (end ≤ coded_area size)) 10
-end_reads size p o l m =
-    let k = area_number size in
+pub end_reads : (by_coded : Bool) (size : TxSize) (p o : ℕ) → p < 2 → o < 2 → Reads HasSymbols (end_element by_coded size p o) (λ end. (1 ≤ end) × (end ≤ coded_area size)) 10
+end_reads by_coded size p o l m =
+    let k = area_number by_coded size in
     let few = area_few size in
     among_reads _ (5 + k) _ (coded_area size) (omega arith) (eob_flag_has k p o (omega arith) l m) (λ t a b. eob_extra_has (size_context size) p (t - 3) (size_few size) l (omega (arith, a, b))) few
-    (class_within size)
+    (class_within by_coded size)
 
 -- one or more levels
 pub AreSome : ℕ → List ℤ → Type 0
@@ -109,12 +111,12 @@ counted_some : (most : ℕ) (levels : List ℤ) → ((1 ≤ length levels) × (l
 unfolding AreSome
 counted_some most levels h = (h.0.0, record { few = h.0.1; small = h.1.small; last = h.1.last })
 
-pub block_reads : (size : TxSize) (p context : ℕ) (class : TxClass) (scan : List ℕ) → p < 2 → context < 3 → Reads HasSymbols (block_element size p context class scan) (AreSome (coded_area size)) 70666
-block_reads size p context class scan l m =
+pub block_reads : (by_coded : Bool) (size : TxSize) (p context : ℕ) (class : TxClass) (scan : List ℕ) → p < 2 → context < 3 → Reads HasSymbols (block_element by_coded size p context class scan) (AreSome (coded_area size)) 70666
+block_reads by_coded size p context class scan l m =
     let levels = levels_element (base_distribution size p class scan) (range_distribution size p class scan) (sign_distribution p context) in
     let few = area_few size in
-    reads_as HasSymbols (block_element size p context class scan) (λ ls. ((1 ≤ length ls) × (length ls ≤ coded_area size)) × AreCounted (length ls) ls) (AreSome (coded_area size)) 70666 70666 (counted_some (coded_area size)) (some_counted (coded_area size)) (omega arith)
-    (after_reads HasSymbols (end_element size p (one_dimensional class)) levels length (λ n. (1 ≤ n) × (n ≤ coded_area size)) AreCounted 10 70656 (λ n ls q h. h.long) (end_reads size p (one_dimensional class) l (one_few class))
+    reads_as HasSymbols (block_element by_coded size p context class scan) (λ ls. ((1 ≤ length ls) × (length ls ≤ coded_area size)) × AreCounted (length ls) ls) (AreSome (coded_area size)) 70666 70666 (counted_some (coded_area size)) (some_counted (coded_area size)) (omega arith)
+    (after_reads HasSymbols (end_element by_coded size p (one_dimensional class)) levels length (λ n. (1 ≤ n) × (n ≤ coded_area size)) AreCounted 10 70656 (λ n ls q h. h.long) (end_reads by_coded size p (one_dimensional class) l (one_few class))
     (λ n q. reads_as HasSymbols (levels n) (AreCounted n) (AreCounted n) (69 * n) 70656 (λ ls h. h) (λ ls h. h) (omega (arith, q.1, few)) (counted_read _ _ _ (coders size p class scan l) (signs_have p context l m) n)))
 
 none_is : (levels : List ℤ) → are_none levels ≡ true → levels ≡ []
@@ -132,10 +134,10 @@ is_some (v ∷ vs) h = refl
 no_levels : (most : ℕ) → AreLevels most []
 no_levels most = record { few = omega arith; small = λ k l. absurd (omega (arith, l)); last = λ l. absurd (omega (arith, l)) }
 
-module _ (types : Element Distribution TxType) (IsType : TxType → Type 0) (without : TxType) (size : TxSize) (p : ℕ) (contexts : TXB_CTX) (scans : TxClass → List ℕ)
+module _ (by_coded : Bool) (types : Element Distribution TxType) (IsType : TxType → Type 0) (without : TxType) (size : TxSize) (p : ℕ) (contexts : TXB_CTX) (scans : TxClass → List ℕ)
     (told : Reads HasSymbols types IsType 1) (plane : p < 2) (skip : contexts.txb_skip_ctx < 13) (sign : contexts.dc_sign_ctx < 3) where
   abbrev block : TxType → Element Distribution (List ℤ)
-  block t = block_element size p contexts.dc_sign_ctx (class_of t) (scans (class_of t))
+  block t = block_element by_coded size p contexts.dc_sign_ctx (class_of t) (scans (class_of t))
 
   abbrev typed : TxType → Element Distribution (TxType × List ℤ)
   typed t = renamed (block t) (λ levels. (t, levels)) (λ a. a.1)
@@ -149,7 +151,7 @@ module _ (types : Element Distribution TxType) (IsType : TxType → Type 0) (wit
   pub typed_read : (t : TxType) → Reads HasSymbols (typed t) (IsTyped t) 70666
   typed_read t =
       renamed_reads HasSymbols (block t) (λ levels. (t, levels)) (λ a. a.1) (AreSome (coded_area size)) (IsTyped t) 70666 (λ a h. (h.1, λ i. (sym h.0 i, a.1))) (λ levels h. ((refl, h), refl))
-      (block_reads size p contexts.dc_sign_ctx (class_of t) (scans (class_of t)) plane sign)
+      (block_reads by_coded size p contexts.dc_sign_ctx (class_of t) (scans (class_of t)) plane sign)
 
   with_levels_read : Reads HasSymbols with_levels (λ a. IsType a.0 × IsTyped a.0 a) 70667
   with_levels_read = after_reads HasSymbols types typed (λ a. a.0) IsType IsTyped 1 70666 (λ t a q h. h.0) told (λ t q. typed_read t)
@@ -177,9 +179,9 @@ module _ (types : Element Distribution TxType) (IsType : TxType → Type 0) (wit
       (λ t. reads_as HasSymbols (known (without, [])) (λ a. a ≡ (without, [])) (Told none) 0 70667 (λ a h. subst (λ b. Told b a) (sym t) (none_told a h)) (λ a h. told_none a (subst (λ b. Told b a) t h)) (omega arith) (known_reads HasSymbols (without, [])))
       (λ f. reads_as HasSymbols with_levels (λ a. IsType a.0 × IsTyped a.0 a) (Told none) 70667 70667 (λ a h. subst (λ b. Told b a) (sym f) (some_told a h)) (λ a h. told_some a (subst (λ b. Told b a) f h)) (omega arith) with_levels_read)
 
-  pub coeffs_reads : Reads HasSymbols (coeffs_among types without size p contexts scans) (AreCoeffs IsType without (coded_area size)) 70668
+  pub coeffs_reads : Reads HasSymbols (coeffs_among by_coded types without size p contexts scans) (AreCoeffs IsType without (coded_area size)) 70668
   coeffs_reads =
       let q = adaptive (codes "txb_skip_cdf") (size_context size ∷ contexts.txb_skip_ctx ∷ []) in
-      reads_as HasSymbols (coeffs_among types without size p contexts scans) (λ a. Unit {0} × Told (are_none a.1) a) (AreCoeffs IsType without (coded_area size)) 70668 70668 (λ a h. h.1.1) (λ a h. (tt, (refl, h))) (omega arith)
+      reads_as HasSymbols (coeffs_among by_coded types without size p contexts scans) (λ a. Unit {0} × Told (are_none a.1) a) (AreCoeffs IsType without (coded_area size)) 70668 70668 (λ a h. h.1.1) (λ a h. (tt, (refl, h))) (omega arith)
       (after_reads HasSymbols (flag q) (λ none. choose none (known (without, [])) with_levels) (λ a. are_none a.1) (λ none. Unit {0}) Told 1 70667 (λ none a u h. h.0) (flag_reads q (txb_skip_has (size_context size) contexts.txb_skip_ctx (size_few size) skip))
       (λ none u. told_reads none))

@@ -10,7 +10,7 @@ use Rattle.std.proofs.lemmas.Bool.Decides.{nat_tests}
 use Rattle.std.proofs.lemmas.List.{drop_more, drop_all, length-map}
 use Rattle.std.proofs.lemmas.Nat.{pow_pos, mul-le}
 use Rattle.std.proofs.Math.Nat.{div-lt_iff_lt-mul, mul-le-mul_right}
-use Rattle.av1_cdf.specs.Distribution.{Distribution, HasSymbols, coded_by, learnt}
+use Rattle.av1_cdf.specs.Distribution.{Distribution, HasSymbols}
 use Rattle.av1_coef.specs.Contexts.{base_context, range_context, scan_context, last_context, size_context, coded_width, coded_height, coded_height_log2, coded_area}
 use Rattle.av1_coef.specs.Padded.{level_in, in_block}
 use Rattle.av1_coef.proofs.Causal.{padded_range, scan_inside}
@@ -18,7 +18,7 @@ use Rattle.av1_coef.proofs.CodedSizes.{width_few}
 use Rattle.av1_geometry.specs.declared.tx_size.TxSize.{TxSize}
 use Rattle.av1_geometry.specs.declared.tx_type.TxClass.{TxClass}
 use Rattle.av1_model.specs.Comes.{Standing, Wrote}
-use Rattle.av1_syntax.specs.Calls.{adaptive}
+use Rattle.av1_syntax.specs.Calls.{adaptive, Context, coded_in, learnt_in}
 use Rattle.av1_syntax.specs.Coefficients.{value_at, levels_at, size_at, sizes_from, size_after, placed, known_after, base_distribution, range_distribution, base_by, range_by, AreCoded, ArePadded, AreContexts}
 use Rattle.av1_syntax.specs.Levels.{coeff_size_element, least, cut_level, level_at}
 use Rattle.av1_syntax.proofs.CoeffKnown.{long, length_levels, counted, alike, level_here}
@@ -201,17 +201,17 @@ level_back size class scan n values are c l x at e f =
 
 -- the code's own distributions of a size are those of the place, and so are its size and the least one
 pub size_coded : {U E : Type 0} (r : Result U E) (size : TxSize) (class : TxClass) (scan : List ℕ) (n : ℕ) (values : List ℤ) (are : AreCoded size class scan n values) (p c : ℕ) → c < n → (levels : List ℕ) → ArePadded size values levels →
-    (base : Distribution) (k at level : ℕ) (old new : Standing (List ℕ)) → base ≡ base_by size p (nat_eq (c + 1) n) k → k ≡ scan_context class size (in_block (coded_width size) (coded_height size) (placed (drop (c + 1) scan) (sizes_from values scan n (c + 1)))) scan n c →
+    (base : Distribution) (k at level : ℕ) (old new : Standing Context) → base ≡ base_by size p (nat_eq (c + 1) n) k → k ≡ scan_context class size (in_block (coded_width size) (coded_height size) (placed (drop (c + 1) scan) (sizes_from values scan n (c + 1)))) scan n c →
     at ≡ slice_index scan c → level ≡ unsigned_abs (value_at values at) →
-    Wrote coded_by (learnt true) r (coeff_size_element base (range_by size p class levels at) (lowest (nat_eq (c + 1) n))).tree (min level 15) old new →
-    Wrote coded_by (learnt true) r (size_after size p class scan c (sizes_from values scan n (c + 1))).tree (size_at values scan c) old new
+    Wrote coded_in learnt_in r (coeff_size_element base (range_by size p class levels at) (lowest (nat_eq (c + 1) n))).tree (min level 15) old new →
+    Wrote coded_in learnt_in r (size_after size p class scan c (sizes_from values scan n (c + 1))).tree (size_at values scan c) old new
 size_coded r size class scan n values are p c l levels padded base k at level old new e f g h w =
     let later = sizes_from values scan n (c + 1) in
     let b : base ≡ base_distribution size p class scan c later = e ∙ ap (base_by size p (nat_eq (c + 1) n)) f ∙ base_here size class scan n values are p c l in
     let q : range_by size p class levels at ≡ range_distribution size p class scan c later = ap (range_by size p class levels) g ∙ range_here size class scan n values are p c l levels padded in
     let low : lowest (nat_eq (c + 1) n) ≡ least later = least_here size class scan n values are p c l in
     let v : min level 15 ≡ size_at values scan c = ap (λ a. min a 15) (h ∙ ap (λ a. unsigned_abs (value_at values a)) g) in
-    let one = subst (λ a. Wrote coded_by (learnt true) r (coeff_size_element base (range_by size p class levels at) (lowest (nat_eq (c + 1) n))).tree a old new) v w in
-    let two = subst (λ (x : Distribution). Wrote coded_by (learnt true) r (coeff_size_element x (range_by size p class levels at) (lowest (nat_eq (c + 1) n))).tree (size_at values scan c) old new) b one in
-    let three = subst (λ (x : Distribution). Wrote coded_by (learnt true) r (coeff_size_element (base_distribution size p class scan c later) x (lowest (nat_eq (c + 1) n))).tree (size_at values scan c) old new) q two in
-    subst (λ m. Wrote coded_by (learnt true) r (coeff_size_element (base_distribution size p class scan c later) (range_distribution size p class scan c later) m).tree (size_at values scan c) old new) low three
+    let one = subst (λ a. Wrote coded_in learnt_in r (coeff_size_element base (range_by size p class levels at) (lowest (nat_eq (c + 1) n))).tree a old new) v w in
+    let two = subst (λ (x : Distribution). Wrote coded_in learnt_in r (coeff_size_element x (range_by size p class levels at) (lowest (nat_eq (c + 1) n))).tree (size_at values scan c) old new) b one in
+    let three = subst (λ (x : Distribution). Wrote coded_in learnt_in r (coeff_size_element (base_distribution size p class scan c later) x (lowest (nat_eq (c + 1) n))).tree (size_at values scan c) old new) q two in
+    subst (λ m. Wrote coded_in learnt_in r (coeff_size_element (base_distribution size p class scan c later) (range_distribution size p class scan c later) m).tree (size_at values scan c) old new) low three

@@ -1,9 +1,9 @@
 -- What a call that codes the factors of chroma from luma writes.
-use Rattle.std.proofs.Common.{◌≡◌, ℕ, zero, suc, ◌+◌, ◌-◌, ◌*◌, ◌≤◌, List, [], ◌∷◌, ◌++◌, true, Option, Some, Result, codes, refl, sym, ap, subst, ◌∙◌, arith, ℤ, pos, negsuc, ◌-ℤ◌}
+use Rattle.std.proofs.Common.{◌≡◌, ℕ, zero, suc, ◌+◌, ◌-◌, ◌*◌, ◌≤◌, [], ◌∷◌, ◌++◌, Option, Some, Result, codes, refl, sym, ap, subst, ◌∙◌, arith, ℤ, pos, negsuc, ◌-ℤ◌}
 use Rattle.std.specs.Option.{option_map_or}
 use Rattle.std.specs.Prelude.{OnOk, OnErr}
 use Rattle.std.proofs.lemmas.Int.{ints}
-use Rattle.av1_cdf.specs.Distribution.{Distribution, coded_by, learnt}
+use Rattle.av1_cdf.specs.Distribution.{Distribution}
 use Rattle.av1_cdf.specs.Distribution.Distribution.{Adaptive}
 use Rattle.av1_cdf.specs.Layout.{Slot, slot}
 use Rattle.av1_geometry.specs.Cfl.{sign_number, signed, magnitude}
@@ -15,6 +15,7 @@ use Rattle.av1_model.specs.Syntax.{Syntax, Leads, bind}
 use Rattle.av1_model.specs.Syntax.Syntax.{Done}
 use Rattle.av1_model.proofs.ComesLaws.{stays, writes_symbol, begins_symbol, writes_first, begins_first, begins_then, comes_then, wrote_then, wrote_as}
 use Rattle.av1_model.proofs.TreeLaws.{leads_then}
+use Rattle.av1_syntax.specs.Calls.{Context, coded_in, learnt_in}
 use Rattle.av1_syntax.specs.Factors.{signs_of, signs_number, signs_element, factor_of, factor_number, factor_element, sizes_element, factors_element}
 use Rattle.av1_syntax.proofs.Values.{below}
 use Rattle.av1_syntax.proofs.Writing.{wrote_symbol, stores_as}
@@ -42,8 +43,8 @@ factor_told own n h sized =
     ap (λ m. factor_of own (m - 1)) (magnitude_signed own n h) ∙ below 16 (n - 1) (Some (signed own (n - 1 + 1))) (omega (arith, s)) ∙ ap (λ k. Some (signed own k)) e
 
 -- the size of a factor that is not zero is coded
-pub factor_wrote : {U E : Type 0} (r : Result U E) (own other : CFLSign) (n ctx s : ℕ) (p : Slot) (old new : Standing (List ℕ)) → 1 ≤ sign_number own → IsSized own n → ctx + 3 ≡ 3 * sign_number own + sign_number other → s + 1 ≡ n →
-    p ≡ slot (codes "cfl_alpha_cdf") (ctx ∷ []) → OnOk r (Stores coded_by (learnt true) (Adaptive p) s old new) → OnErr r (new ≡ old) → Wrote coded_by (learnt true) r (factor_element own other).tree (signed own n) old new
+pub factor_wrote : {U E : Type 0} (r : Result U E) (own other : CFLSign) (n ctx s : ℕ) (p : Slot) (old new : Standing Context) → 1 ≤ sign_number own → IsSized own n → ctx + 3 ≡ 3 * sign_number own + sign_number other → s + 1 ≡ n →
+    p ≡ slot (codes "cfl_alpha_cdf") (ctx ∷ []) → OnOk r (Stores coded_in learnt_in (Adaptive p) s old new) → OnErr r (new ≡ old) → Wrote coded_in learnt_in r (factor_element own other).tree (signed own n) old new
 factor_wrote r CFL_SIGN_ZERO other n ctx s p old new h sized at e is ok err = absurd (omega (arith, h))
 factor_wrote r CFL_SIGN_NEG other n ctx s p old new h sized at e is ok err =
     let m = magnitude_signed CFL_SIGN_NEG n h in
@@ -57,8 +58,8 @@ factor_wrote r CFL_SIGN_POS other n ctx s p old new h sized at e is ok err =
     (omega (arith, m, e)) (factor_told CFL_SIGN_POS n h sized) ok err
 
 -- nothing is coded of a factor that is zero
-pub factor_none : (own other : CFLSign) (n : ℕ) (at : Standing (List ℕ)) → (1 ≤ sign_number own → ⊥) → Writes coded_by (learnt true) (factor_element own other).tree (signed own n) at at
-factor_none CFL_SIGN_ZERO other n at h = stays coded_by (learnt true) (Done (pos 0)) at
+pub factor_none : (own other : CFLSign) (n : ℕ) (at : Standing Context) → (1 ≤ sign_number own → ⊥) → Writes coded_in learnt_in (factor_element own other).tree (signed own n) at at
+factor_none CFL_SIGN_ZERO other n at h = stays coded_in learnt_in (Done (pos 0)) at
 factor_none CFL_SIGN_NEG other n at h = absurd (h (omega arith))
 factor_none CFL_SIGN_POS other n at h = absurd (h (omega arith))
 
@@ -95,30 +96,30 @@ module _ (a b : CFLSign) (m n : ℕ) (some : 1 ≤ sign_number a + sign_number b
   sizes_lead : Leads (sizes_element (a, b)).tree ((factor_element a b).symbols (signed a m) ++ ((factor_element b a).symbols (signed b n) ++ [])) (signed a m, signed b n)
   sizes_lead = leads_then (factor_element a b).tree (second_tree a b) ((factor_element a b).symbols (signed a m)) ((factor_element b a).symbols (signed b n) ++ []) (signed a m) (signed a m, signed b n) (factor_leads a b m first) second_leads
 
-  signs_come : (p : Slot) (s : ℕ) (old mid : Standing (List ℕ)) → p ≡ slot (codes "cfl_sign_cdf") [] → s ≡ signs_number (a, b) → Stores coded_by (learnt true) (Adaptive p) s old mid →
-      Comes coded_by (learnt true) factors_element.tree (sizes_element (a, b)).tree old mid
+  signs_come : (p : Slot) (s : ℕ) (old mid : Standing Context) → p ≡ slot (codes "cfl_sign_cdf") [] → s ≡ signs_number (a, b) → Stores coded_in learnt_in (Adaptive p) s old mid →
+      Comes coded_in learnt_in factors_element.tree (sizes_element (a, b)).tree old mid
   signs_come p s old mid is e h =
       let q = slot (codes "cfl_sign_cdf") [] in
-      writes_first coded_by (learnt true) signs_element.tree (λ x. (sizes_element x).tree) (a, b) old mid
-      (writes_symbol coded_by (learnt true) (Adaptive q) signs_of signs_number (a, b) old mid (signs_told a b some) (stores_as (Adaptive p) (Adaptive q) s (signs_number (a, b)) old mid (ap Adaptive is) e h))
+      writes_first coded_in learnt_in signs_element.tree (λ x. (sizes_element x).tree) (a, b) old mid
+      (writes_symbol coded_in learnt_in (Adaptive q) signs_of signs_number (a, b) old mid (signs_told a b some) (stores_as (Adaptive p) (Adaptive q) s (signs_number (a, b)) old mid (ap Adaptive is) e h))
 
   -- the signs are refused
-  pub signs_begun : (old new : Standing (List ℕ)) → new ≡ old → Begins coded_by (learnt true) factors_element.tree (signed a m, signed b n) old new
+  pub signs_begun : (old new : Standing Context) → new ≡ old → Begins coded_in learnt_in factors_element.tree (signed a m, signed b n) old new
   signs_begun old new e =
-      begins_first coded_by (learnt true) signs_element.tree (λ x. (sizes_element x).tree) (a, b) (signed a m, signed b n) _ old new sizes_lead
-      (begins_symbol coded_by (learnt true) (Adaptive (slot (codes "cfl_sign_cdf") [])) signs_of signs_number (a, b) old new (signs_told a b some) e)
+      begins_first coded_in learnt_in signs_element.tree (λ x. (sizes_element x).tree) (a, b) (signed a m, signed b n) _ old new sizes_lead
+      (begins_symbol coded_in learnt_in (Adaptive (slot (codes "cfl_sign_cdf") [])) signs_of signs_number (a, b) old new (signs_told a b some) e)
 
   -- the first factor is refused
-  pub first_begun : (p : Slot) (s : ℕ) (old mid new : Standing (List ℕ)) → p ≡ slot (codes "cfl_sign_cdf") [] → s ≡ signs_number (a, b) → Stores coded_by (learnt true) (Adaptive p) s old mid →
-      Begins coded_by (learnt true) (factor_element a b).tree (signed a m) mid new → Begins coded_by (learnt true) factors_element.tree (signed a m, signed b n) old new
+  pub first_begun : (p : Slot) (s : ℕ) (old mid new : Standing Context) → p ≡ slot (codes "cfl_sign_cdf") [] → s ≡ signs_number (a, b) → Stores coded_in learnt_in (Adaptive p) s old mid →
+      Begins coded_in learnt_in (factor_element a b).tree (signed a m) mid new → Begins coded_in learnt_in factors_element.tree (signed a m, signed b n) old new
   first_begun p s old mid new is e h g =
-      begins_then coded_by (learnt true) factors_element.tree (sizes_element (a, b)).tree (signed a m, signed b n) old mid new (signs_come p s old mid is e h)
-      (begins_first coded_by (learnt true) (factor_element a b).tree (second_tree a b) (signed a m) (signed a m, signed b n) ((factor_element b a).symbols (signed b n) ++ []) mid new second_leads g)
+      begins_then coded_in learnt_in factors_element.tree (sizes_element (a, b)).tree (signed a m, signed b n) old mid new (signs_come p s old mid is e h)
+      (begins_first coded_in learnt_in (factor_element a b).tree (second_tree a b) (signed a m) (signed a m, signed b n) ((factor_element b a).symbols (signed b n) ++ []) mid new second_leads g)
 
   -- the second one after both
-  pub factors_wrote : {U E : Type 0} (r : Result U E) (p : Slot) (s : ℕ) (old mid late new : Standing (List ℕ)) → p ≡ slot (codes "cfl_sign_cdf") [] → s ≡ signs_number (a, b) → Stores coded_by (learnt true) (Adaptive p) s old mid →
-      Writes coded_by (learnt true) (factor_element a b).tree (signed a m) mid late → Wrote coded_by (learnt true) r (factor_element b a).tree (signed b n) late new → Wrote coded_by (learnt true) r factors_element.tree (signed a m, signed b n) old new
+  pub factors_wrote : {U E : Type 0} (r : Result U E) (p : Slot) (s : ℕ) (old mid late new : Standing Context) → p ≡ slot (codes "cfl_sign_cdf") [] → s ≡ signs_number (a, b) → Stores coded_in learnt_in (Adaptive p) s old mid →
+      Writes coded_in learnt_in (factor_element a b).tree (signed a m) mid late → Wrote coded_in learnt_in r (factor_element b a).tree (signed b n) late new → Wrote coded_in learnt_in r factors_element.tree (signed a m, signed b n) old new
   factors_wrote r p s old mid late new is e h g w =
-      wrote_then coded_by (learnt true) r factors_element.tree (second_tree a b (signed a m)) (signed a m, signed b n) old late new
-      (comes_then coded_by (learnt true) factors_element.tree (sizes_element (a, b)).tree (second_tree a b (signed a m)) old mid late (signs_come p s old mid is e h) (writes_first coded_by (learnt true) (factor_element a b).tree (second_tree a b) (signed a m) mid late g))
-      (wrote_as coded_by (learnt true) r (factor_element b a).tree (λ v. Done (signed a m, v)) (signed b n) (signed a m, signed b n) late new refl w)
+      wrote_then coded_in learnt_in r factors_element.tree (second_tree a b (signed a m)) (signed a m, signed b n) old late new
+      (comes_then coded_in learnt_in factors_element.tree (sizes_element (a, b)).tree (second_tree a b (signed a m)) old mid late (signs_come p s old mid is e h) (writes_first coded_in learnt_in (factor_element a b).tree (second_tree a b) (signed a m) mid late g))
+      (wrote_as coded_in learnt_in r (factor_element b a).tree (λ v. Done (signed a m, v)) (signed b n) (signed a m, signed b n) late new refl w)

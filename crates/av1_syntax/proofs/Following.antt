@@ -1,7 +1,7 @@
 -- Elements one after another, and decisions: what a call of them writes, and that they have one path to each value.
-use Rattle.std.proofs.Common.{◌≡◌, ℕ, suc, ◌+◌, List, Bool, true, false, if◌then◌else◌, Result, ap, arith}
+use Rattle.std.proofs.Common.{◌≡◌, ℕ, suc, ◌+◌, Bool, true, false, if◌then◌else◌, Result, ap, arith}
 use Rattle.std.specs.Prelude.{IsErr}
-use Rattle.av1_cdf.specs.Distribution.{Distribution, HasSymbols, coded_by, learnt}
+use Rattle.av1_cdf.specs.Distribution.{Distribution, HasSymbols}
 use Rattle.av1_cdf.specs.Distribution.Distribution.{Adaptive}
 use Rattle.av1_cdf.specs.Layout.{Slot}
 use Rattle.av1_model.specs.Comes.{Standing, Wrote, Writes, Begins}
@@ -10,34 +10,35 @@ use Rattle.av1_model.specs.Syntax.{Leads}
 use Rattle.av1_model.specs.Syntax.Syntax.{Done}
 use Rattle.av1_model.proofs.ComesLaws.{writes_first, begins_first, wrote_then, wrote_as, wrote_err}
 use Rattle.av1_model.proofs.ElementLaws.{reads_as, choose_reads, after_reads}
+use Rattle.av1_syntax.specs.Calls.{Context, coded_in, learnt_in}
 use Rattle.av1_syntax.specs.Decisions.{decide}
 use Rattle.av1_syntax.specs.Flags.{flag}
 use Rattle.av1_syntax.proofs.Elements.{flag_reads}
 
 abbrev pub Numbers : Type 0
-Numbers = Standing (List ℕ)
+Numbers = Standing Context
 
 -- a call of the first of two elements that is refused
-pub first_refused : {A B U E : Type 0} (r : Result U E) (e : Element Distribution A) (f : A → Element Distribution B) (first : B → A) (a : A) (b : B) (old new : Numbers) → IsErr r → Leads (f a).tree ((f a).symbols b) b → Begins coded_by (learnt true) e.tree a old new →
-    Wrote coded_by (learnt true) r (after e f first).tree b old new
-first_refused r e f first a b old new is l h = wrote_err coded_by (learnt true) r (after e f first).tree b old new is (begins_first coded_by (learnt true) e.tree (λ a. (f a).tree) a b ((f a).symbols b) old new l h)
+pub first_refused : {A B U E : Type 0} (r : Result U E) (e : Element Distribution A) (f : A → Element Distribution B) (first : B → A) (a : A) (b : B) (old new : Numbers) → IsErr r → Leads (f a).tree ((f a).symbols b) b → Begins coded_in learnt_in e.tree a old new →
+    Wrote coded_in learnt_in r (after e f first).tree b old new
+first_refused r e f first a b old new is l h = wrote_err coded_in learnt_in r (after e f first).tree b old new is (begins_first coded_in learnt_in e.tree (λ a. (f a).tree) a b ((f a).symbols b) old new l h)
 
 -- a call of the second of two elements, after the first
-pub second_wrote : {A B U E : Type 0} (r : Result U E) (e : Element Distribution A) (f : A → Element Distribution B) (first : B → A) (a : A) (b : B) (old mid new : Numbers) → Writes coded_by (learnt true) e.tree a old mid → Wrote coded_by (learnt true) r (f a).tree b mid new →
-    Wrote coded_by (learnt true) r (after e f first).tree b old new
-second_wrote r e f first a b old mid new h w = wrote_then coded_by (learnt true) r (after e f first).tree (f a).tree b old mid new (writes_first coded_by (learnt true) e.tree (λ a. (f a).tree) a old mid h) w
+pub second_wrote : {A B U E : Type 0} (r : Result U E) (e : Element Distribution A) (f : A → Element Distribution B) (first : B → A) (a : A) (b : B) (old mid new : Numbers) → Writes coded_in learnt_in e.tree a old mid → Wrote coded_in learnt_in r (f a).tree b mid new →
+    Wrote coded_in learnt_in r (after e f first).tree b old new
+second_wrote r e f first a b old mid new h w = wrote_then coded_in learnt_in r (after e f first).tree (f a).tree b old mid new (writes_first coded_in learnt_in e.tree (λ a. (f a).tree) a old mid h) w
 
 -- a call of an element whose values go by other names
-pub renamed_wrote : {A B U E : Type 0} (r : Result U E) (e : Element Distribution A) (name : A → B) (back : B → A) (a : A) (b : B) (old new : Numbers) → name a ≡ b → Wrote coded_by (learnt true) r e.tree a old new → Wrote coded_by (learnt true) r (renamed e name back).tree b old new
-renamed_wrote r e name back a b old new same w = wrote_as coded_by (learnt true) r e.tree (λ a. Done (name a)) a b old new (ap Done same) w
+pub renamed_wrote : {A B U E : Type 0} (r : Result U E) (e : Element Distribution A) (name : A → B) (back : B → A) (a : A) (b : B) (old new : Numbers) → name a ≡ b → Wrote coded_in learnt_in r e.tree a old new → Wrote coded_in learnt_in r (renamed e name back).tree b old new
+renamed_wrote r e name back a b old new same w = wrote_as coded_in learnt_in r e.tree (λ a. Done (name a)) a b old new (ap Done same) w
 
 module _ {A U E : Type 0} (r : Result U E) (test : A → Bool) (s : Slot) (e f : Element Distribution A) (a : A) (b : Bool) (is : b ≡ test a) where
   -- a flag is refused
-  pub flag_refused : (old new : Numbers) → IsErr r → Leads (choose b e f).tree ((choose b e f).symbols a) a → Begins coded_by (learnt true) (flag (Adaptive s)).tree b old new → Wrote coded_by (learnt true) r (decide test s e f).tree a old new
+  pub flag_refused : (old new : Numbers) → IsErr r → Leads (choose b e f).tree ((choose b e f).symbols a) a → Begins coded_in learnt_in (flag (Adaptive s)).tree b old new → Wrote coded_in learnt_in r (decide test s e f).tree a old new
   flag_refused old new err l h = first_refused r (flag (Adaptive s)) (λ b. choose b e f) test b a old new err l h
 
   -- one of the two elements after its flag
-  pub decided : (old mid new : Numbers) → Writes coded_by (learnt true) (flag (Adaptive s)).tree b old mid → Wrote coded_by (learnt true) r (choose b e f).tree a mid new → Wrote coded_by (learnt true) r (decide test s e f).tree a old new
+  pub decided : (old mid new : Numbers) → Writes coded_in learnt_in (flag (Adaptive s)).tree b old mid → Wrote coded_in learnt_in r (choose b e f).tree a mid new → Wrote coded_in learnt_in r (decide test s e f).tree a old new
   decided old mid new h w = second_wrote r (flag (Adaptive s)) (λ b. choose b e f) test b a old mid new h w
 
 either_known : {A : Type 0} (x y a : A) (b : Bool) → (if b then x else y) ≡ a → (choose {Q = Distribution} b (known x) (known y)).tree ≡ Done a
@@ -45,9 +46,9 @@ either_known x y a true e = ap Done e
 either_known x y a false e = ap Done e
 
 -- a flag that tells which of two values it is
-pub told_by_flag : {A U E : Type 0} (r : Result U E) (test : A → Bool) (s : Slot) (x y a : A) (b : Bool) (old new : Numbers) → (if b then x else y) ≡ a → Wrote coded_by (learnt true) r (flag (Adaptive s)).tree b old new →
-    Wrote coded_by (learnt true) r (decide test s (known x) (known y)).tree a old new
-told_by_flag r test s x y a b old new e w = wrote_as coded_by (learnt true) r (flag (Adaptive s)).tree (λ b. (choose b (known x) (known y)).tree) b a old new (either_known x y a b e) w
+pub told_by_flag : {A U E : Type 0} (r : Result U E) (test : A → Bool) (s : Slot) (x y a : A) (b : Bool) (old new : Numbers) → (if b then x else y) ≡ a → Wrote coded_in learnt_in r (flag (Adaptive s)).tree b old new →
+    Wrote coded_in learnt_in r (decide test s (known x) (known y)).tree a old new
+told_by_flag r test s x y a b old new e w = wrote_as coded_in learnt_in r (flag (Adaptive s)).tree (λ b. (choose b (known x) (known y)).tree) b a old new (either_known x y a b e) w
 
 -- the values of one of two elements
 abbrev pub Picked : {A : Type 0} → (A → Type 0) → (A → Type 0) → Bool → A → Type 0

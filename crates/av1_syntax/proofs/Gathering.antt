@@ -12,12 +12,13 @@ use Rattle.av1_geometry.specs.PartitionType.{partition_number, partition_of}
 use Rattle.av1_blocks.specs.declared.block_context.BlockContext.{BlockContext}
 use Rattle.av1_blocks.specs.Edges.{partition_context}
 use Rattle.av1_blocks.specs.Grid.{Grid}
-use Rattle.av1_cdf.specs.Distribution.{HasSymbols, coded_by, learnt}
+use Rattle.av1_cdf.specs.Distribution.{HasSymbols}
 use Rattle.av1_cdf.specs.Distribution.Distribution.{Adaptive}
 use Rattle.av1_cdf.specs.Layout.{Slot, slot}
 use Rattle.av1_cdf.proofs.Cells.{is_lt, lt_is, lt_not}
 use Rattle.av1_model.specs.Cdf.{IsCdf}
 use Rattle.av1_model.specs.Comes.{Standing, Wrote}
+use Rattle.av1_syntax.specs.Calls.{Context, coded_in, learnt_in}
 use Rattle.av1_syntax.specs.Partition.{probability, vert_alike, horz_alike, partition_slot, partition_below, has_cols, has_rows, IsParted, is_allowed, split_or, split_number, partition_among}
 use Rattle.av1_geometry.proofs.Numbers.{partition_numbered}
 use Rattle.av1_syntax.proofs.Values.{past, told_below}
@@ -138,10 +139,10 @@ pub none_told : (size : BlockSize) (p : PartitionType) → IsTrue (is_allowed fa
 none_told size PARTITION_SPLIT h = refl
 none_told size _ h = absurd cc
 
-pub wrote_among : {U E : Type 0} (r : Result U E) (cols rows c d : Bool) (s : Slot) (cdf : List ℕ) (p : PartitionType) (old new : Standing (List ℕ)) → cols ≡ c → rows ≡ d →
-    Wrote coded_by (learnt true) r (partition_among c d s cdf).tree p old new → Wrote coded_by (learnt true) r (partition_among cols rows s cdf).tree p old new
+pub wrote_among : {U E : Type 0} (r : Result U E) (cols rows c d : Bool) (s : Slot) (cdf : List ℕ) (p : PartitionType) (old new : Standing Context) → cols ≡ c → rows ≡ d →
+    Wrote coded_in learnt_in r (partition_among c d s cdf).tree p old new → Wrote coded_in learnt_in r (partition_among cols rows s cdf).tree p old new
 wrote_among r cols rows c d s cdf p old new e f h =
-    subst (λ c. Wrote coded_by (learnt true) r (partition_among c rows s cdf).tree p old new) (sym e) (subst (λ d. Wrote coded_by (learnt true) r (partition_among c d s cdf).tree p old new) (sym f) h)
+    subst (λ c. Wrote coded_in learnt_in r (partition_among c rows s cdf).tree p old new) (sym e) (subst (λ d. Wrote coded_in learnt_in r (partition_among c d s cdf).tree p old new) (sym f) h)
 
 pub allowed_at : (cols rows c d : Bool) (size : BlockSize) (p : PartitionType) → cols ≡ c → rows ≡ d → IsTrue (is_allowed cols rows size p) → IsTrue (is_allowed c d size p)
 allowed_at cols rows c d size p e f h = subst (λ d. IsTrue (is_allowed c d size p)) f (subst (λ c. IsTrue (is_allowed c rows size p)) e h)

@@ -21,12 +21,14 @@ pub mod InterSlots
 pub mod InterWrites
 pub mod LevelReads
 pub mod LevelWrites
+pub mod Moving
 pub mod Palettes
 pub mod Readings
 pub mod Restoring
 pub mod Segments
 pub mod Slots
 pub mod Splits
+pub mod Switches
 pub mod TransformSizes
 pub mod TransformTypes
 pub mod Values

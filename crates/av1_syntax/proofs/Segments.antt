@@ -1,15 +1,15 @@
 -- The segments by their distance from a prediction, and what a call that codes one writes.
-use Rattle.std.proofs.Common.{◌≡◌, ℕ, ◌+◌, ◌<◌, ◌≤◌, List, [], ◌∷◌, Bool, true, false, Some, None, Result, if◌then◌else◌, nat_lt, codes, ap, ◌∙◌, arith}
+use Rattle.std.proofs.Common.{◌≡◌, ℕ, ◌+◌, ◌<◌, ◌≤◌, [], ◌∷◌, Bool, true, false, Some, None, Result, if◌then◌else◌, nat_lt, codes, ap, ◌∙◌, arith}
 use Rattle.std.specs.Prelude.{OnOk, OnErr}
 use Rattle.std.proofs.lemmas.Bool.Decides.{nat_tests}
 use Rattle.av1_blocks.specs.Grid.{Grid, block_at}
-use Rattle.av1_cdf.specs.Distribution.{coded_by, learnt}
 use Rattle.av1_cdf.specs.Distribution.Distribution.{Adaptive}
 use Rattle.av1_cdf.specs.Layout.{Slot, slot}
 use Rattle.av1_geometry.specs.declared.block_offset.BlockOffset.{BlockOffset}
 use Rattle.av1_model.specs.Comes.{Standing, Stores, Wrote, Writes}
 use Rattle.av1_model.specs.Syntax.Syntax.{Done}
 use Rattle.av1_model.proofs.ComesLaws.{stays}
+use Rattle.av1_syntax.specs.Calls.{Context, coded_in, learnt_in}
 use Rattle.av1_syntax.specs.Segments.{interleaved, deinterleaved, predicted_segment, segment_context, segment_of, segment_element}
 use Rattle.av1_syntax.proofs.Values.{below}
 use Rattle.av1_syntax.proofs.Writing.{wrote_symbol}
@@ -33,14 +33,14 @@ pub predicted_few : (g : Grid) (bo : BlockOffset) (last : ℕ) → predicted_seg
 predicted_few g bo last = omega arith
 
 -- a skipped block has the predicted segment
-pub segment_skipped : (g : Grid) (bo : BlockOffset) (skip : Bool) (last : ℕ) (at : Standing (List ℕ)) → skip ≡ true → Writes coded_by (learnt true) (segment_element g bo skip last).tree (segment_of g bo skip last) at at
-segment_skipped g bo true last at h = stays coded_by (learnt true) (Done (predicted_segment g bo last)) at
+pub segment_skipped : (g : Grid) (bo : BlockOffset) (skip : Bool) (last : ℕ) (at : Standing Context) → skip ≡ true → Writes coded_in learnt_in (segment_element g bo skip last).tree (segment_of g bo skip last) at at
+segment_skipped g bo true last at h = stays coded_in learnt_in (Done (predicted_segment g bo last)) at
 segment_skipped g bo false last at h = absurd cc
 
 -- the segment of another block is coded by its number
-pub segment_wrote : {U E : Type 0} (r : Result U E) (g : Grid) (bo : BlockOffset) (skip : Bool) (last s : ℕ) (p : Slot) (old new : Standing (List ℕ)) → skip ≡ false → p ≡ slot (codes "spatial_segmentation_cdfs") (segment_context g bo ∷ []) →
-    (block_at g bo.x bo.y).segmentation_idx ≤ last → s ≡ interleaved (last + 1) (predicted_segment g bo last) (block_at g bo.x bo.y).segmentation_idx → OnOk r (Stores coded_by (learnt true) (Adaptive p) s old new) → OnErr r (new ≡ old) →
-    Wrote coded_by (learnt true) r (segment_element g bo skip last).tree (segment_of g bo skip last) old new
+pub segment_wrote : {U E : Type 0} (r : Result U E) (g : Grid) (bo : BlockOffset) (skip : Bool) (last s : ℕ) (p : Slot) (old new : Standing Context) → skip ≡ false → p ≡ slot (codes "spatial_segmentation_cdfs") (segment_context g bo ∷ []) →
+    (block_at g bo.x bo.y).segmentation_idx ≤ last → s ≡ interleaved (last + 1) (predicted_segment g bo last) (block_at g bo.x bo.y).segmentation_idx → OnOk r (Stores coded_in learnt_in (Adaptive p) s old new) → OnErr r (new ≡ old) →
+    Wrote coded_in learnt_in r (segment_element g bo skip last).tree (segment_of g bo skip last) old new
 segment_wrote r g bo true last s p old new h is few e ok err = absurd cc
 segment_wrote r g bo false last s p old new h is few e ok err =
     let n = last + 1 in

@@ -10,7 +10,7 @@ use Rattle.std.proofs.Math.Seq.{drop-length, take-length}
 use Rattle.av1_blocks.specs.Edges.{with_tx_sides}
 use Rattle.av1_blocks.specs.Grid.{Grid, IsInside}
 use Rattle.av1_blocks.specs.declared.block_context.BlockContext.{BlockContext}
-use Rattle.av1_cdf.specs.Distribution.{Distribution, HasSymbols, coded_by, learnt}
+use Rattle.av1_cdf.specs.Distribution.{Distribution, HasSymbols}
 use Rattle.av1_cdf.specs.Distribution.Distribution.{Adaptive}
 use Rattle.av1_cdf.specs.Layout.{Slot, slot, layout, fields, vector_fields, component_fields}
 use Rattle.av1_cdf.specs.Runs.{has_run}
@@ -28,7 +28,7 @@ use Rattle.av1_model.specs.Syntax.{Syntax, Leads}
 use Rattle.av1_model.specs.Syntax.Syntax.{Done}
 use Rattle.av1_model.proofs.ComesLaws.{stays, comes_then, writes_first, begins_first, begins_then, wrote_then}
 use Rattle.av1_model.proofs.ElementLaws.{known_reads, reads_as, choose_reads, after_reads}
-use Rattle.av1_syntax.specs.Calls.{adaptive}
+use Rattle.av1_syntax.specs.Calls.{adaptive, Context, coded_in, learnt_in}
 use Rattle.av1_syntax.specs.Flags.{flag, flag_number}
 use Rattle.av1_syntax.specs.Palette.{off_of, off_where}
 use Rattle.av1_syntax.specs.TransformSizes.{longer, halved, width_above, height_left, txfm_partition_context, split_slot, is_within, part_element, block_of, entered_tx, parts_of, place_of, entered_parts, parts_element, split_element, tx_size_inter_element, entered_split, AreSome, IsPlaced}
@@ -74,8 +74,8 @@ both false b e f = absurd (let z : ⊥ = cc in z)
 inside_within : (g : Grid) (bo : BlockOffset) → IsInside g bo → is_within g bo ≡ true
 inside_within g bo h = both _ _ (lt_is bo.x g.cols h.column) (lt_is bo.y g.rows h.row)
 
-pub part_wrote : {U E : Type 0} (r : Result U E) (bc : BlockContext) (bo : BlockOffset) (size : BlockSize) (part : TxSize) (tbx tby : ℕ) (p : Slot) (old new : Standing (List ℕ)) → IsInside bc.blocks bo → 3 ≤ longer part →
-    p ≡ slot (codes "txfm_partition_cdf") (txfm_partition_context bc bo size part tbx tby ∷ []) → OnOk r (Stores coded_by (learnt true) (Adaptive p) 0 old new) → OnErr r (new ≡ old) → Wrote coded_by (learnt true) r (part_element bc bo size part tbx tby).tree false old new
+pub part_wrote : {U E : Type 0} (r : Result U E) (bc : BlockContext) (bo : BlockOffset) (size : BlockSize) (part : TxSize) (tbx tby : ℕ) (p : Slot) (old new : Standing Context) → IsInside bc.blocks bo → 3 ≤ longer part →
+    p ≡ slot (codes "txfm_partition_cdf") (txfm_partition_context bc bo size part tbx tby ∷ []) → OnOk r (Stores coded_in learnt_in (Adaptive p) 0 old new) → OnErr r (new ≡ old) → Wrote coded_in learnt_in r (part_element bc bo size part tbx tby).tree false old new
 part_wrote r bc bo size part tbx tby p old new h l e ok err =
     let q = slot (codes "txfm_partition_cdf") (txfm_partition_context bc bo size part tbx tby ∷ []) in
     chosen r (is_within bc.blocks bo && nat_lt 2 (longer part)) (symbol (Adaptive q) off_of flag_number) (known false) false old new (both _ _ (inside_within bc.blocks bo h) (lt_is 2 (longer part) (omega (arith, l))))
@@ -89,10 +89,10 @@ neither : (a b : Bool) → a ≡ false → (a && b) ≡ false
 neither true b e = absurd (let z : ⊥ = cc in z)
 neither false b e = refl
 
-pub part_none : (bc : BlockContext) (bo : BlockOffset) (size : BlockSize) (part : TxSize) (tbx tby : ℕ) (at : Standing (List ℕ)) → is_within bc.blocks bo ≡ false → Writes coded_by (learnt true) (part_element bc bo size part tbx tby).tree false at at
+pub part_none : (bc : BlockContext) (bo : BlockOffset) (size : BlockSize) (part : TxSize) (tbx tby : ℕ) (at : Standing Context) → is_within bc.blocks bo ≡ false → Writes coded_in learnt_in (part_element bc bo size part tbx tby).tree false at at
 part_none bc bo size part tbx tby at e =
     let q = slot (codes "txfm_partition_cdf") (txfm_partition_context bc bo size part tbx tby ∷ []) in
-    chosen_last {U = Unit {0}} {E = Unit {0}} (Ok tt) (is_within bc.blocks bo && nat_lt 2 (longer part)) (symbol (Adaptive q) off_of flag_number) (known false) false at at (neither _ _ e) (stays coded_by (learnt true) (Done false) at)
+    chosen_last {U = Unit {0}} {E = Unit {0}} (Ok tt) (is_within bc.blocks bo && nat_lt 2 (longer part)) (symbol (Adaptive q) off_of flag_number) (known false) false at at (neither _ _ e) (stays coded_in learnt_in (Done false) at)
 
 second : (a b : Bool) → (a && b) ≡ true → b ≡ true
 second true b e = e
@@ -155,29 +155,29 @@ module _ (bc : BlockContext) (bo : BlockOffset) (size : BlockSize) (tbx tby : �
       (flag_reads (split_slot bc bo size (max_tx_size size) tbx tby) flag_has) (λ split p. chosen_reads split))
 
   -- the flag, by another name of its slot
-  flag_as : {U E : Type 0} (r : Result U E) (p : Slot) (split : Bool) (old new : Standing (List ℕ)) → p ≡ slot (codes "txfm_partition_cdf") (context ∷ []) → Wrote coded_by (learnt true) r (flag (Adaptive p)).tree split old new →
-      Wrote coded_by (learnt true) r (flag (split_slot bc bo size (max_tx_size size) tbx tby)).tree split old new
-  flag_as r p split old new e h = subst (λ (s : Slot). Wrote coded_by (learnt true) r (flag (Adaptive s)).tree split old new) e h
+  flag_as : {U E : Type 0} (r : Result U E) (p : Slot) (split : Bool) (old new : Standing Context) → p ≡ slot (codes "txfm_partition_cdf") (context ∷ []) → Wrote coded_in learnt_in r (flag (Adaptive p)).tree split old new →
+      Wrote coded_in learnt_in r (flag (split_slot bc bo size (max_tx_size size) tbx tby)).tree split old new
+  flag_as r p split old new e h = subst (λ (s : Slot). Wrote coded_in learnt_in r (flag (Adaptive s)).tree split old new) e h
 
-  pub split_begun : (p : Slot) (split : Bool) (old new : Standing (List ℕ)) → p ≡ slot (codes "txfm_partition_cdf") (context ∷ []) → Begins coded_by (learnt true) (flag (Adaptive p)).tree split old new →
-      Begins coded_by (learnt true) (split_element bc bo size tbx tby).tree split old new
+  pub split_begun : (p : Slot) (split : Bool) (old new : Standing Context) → p ≡ slot (codes "txfm_partition_cdf") (context ∷ []) → Begins coded_in learnt_in (flag (Adaptive p)).tree split old new →
+      Begins coded_in learnt_in (split_element bc bo size tbx tby).tree split old new
   split_begun p split old new e b =
-      begins_first coded_by (learnt true) (flag (split_slot bc bo size (max_tx_size size) tbx tby)).tree (λ split. (choose split parts (known false)).tree) split split ((choose split parts (known false)).symbols split) old new ((chosen_reads split).leads split refl)
+      begins_first coded_in learnt_in (flag (split_slot bc bo size (max_tx_size size) tbx tby)).tree (λ split. (choose split parts (known false)).tree) split split ((choose split parts (known false)).symbols split) old new ((chosen_reads split).leads split refl)
       (flag_as {U = Unit {0}} {E = Unit {0}} (Err tt) p split old new e b)
 
-  split_first : (p : Slot) (split : Bool) (old mid : Standing (List ℕ)) → p ≡ slot (codes "txfm_partition_cdf") (context ∷ []) → Writes coded_by (learnt true) (flag (Adaptive p)).tree split old mid →
-      Comes coded_by (learnt true) (split_element bc bo size tbx tby).tree (choose split parts (known false)).tree old mid
+  split_first : (p : Slot) (split : Bool) (old mid : Standing Context) → p ≡ slot (codes "txfm_partition_cdf") (context ∷ []) → Writes coded_in learnt_in (flag (Adaptive p)).tree split old mid →
+      Comes coded_in learnt_in (split_element bc bo size tbx tby).tree (choose split parts (known false)).tree old mid
   split_first p split old mid e h =
-      writes_first coded_by (learnt true) (flag (split_slot bc bo size (max_tx_size size) tbx tby)).tree (λ split. (choose split parts (known false)).tree) split old mid (flag_as {U = Unit {0}} {E = Unit {0}} (Ok tt) p split old mid e h)
+      writes_first coded_in learnt_in (flag (split_slot bc bo size (max_tx_size size) tbx tby)).tree (λ split. (choose split parts (known false)).tree) split old mid (flag_as {U = Unit {0}} {E = Unit {0}} (Ok tt) p split old mid e h)
 
-  pub split_wrote : {U E : Type 0} (r : Result U E) (p : Slot) (split : Bool) (part : TxSize) (old mid new : Standing (List ℕ)) → p ≡ slot (codes "txfm_partition_cdf") (context ∷ []) → split ≡ true → part ≡ half → Writes coded_by (learnt true) (flag (Adaptive p)).tree split old mid →
-      Wrote coded_by (learnt true) r (parts_element bo size part (parts_of size part) bc).tree true mid new → Wrote coded_by (learnt true) r (split_element bc bo size tbx tby).tree split old new
+  pub split_wrote : {U E : Type 0} (r : Result U E) (p : Slot) (split : Bool) (part : TxSize) (old mid new : Standing Context) → p ≡ slot (codes "txfm_partition_cdf") (context ∷ []) → split ≡ true → part ≡ half → Writes coded_in learnt_in (flag (Adaptive p)).tree split old mid →
+      Wrote coded_in learnt_in r (parts_element bo size part (parts_of size part) bc).tree true mid new → Wrote coded_in learnt_in r (split_element bc bo size tbx tby).tree split old new
   split_wrote r p false part old mid new e t is h v = absurd (let z : ⊥ = cc in z)
   split_wrote r p true part old mid new e t is h v =
-      wrote_then coded_by (learnt true) r (split_element bc bo size tbx tby).tree parts.tree true old mid new (split_first p true old mid e h)
-      (subst (λ (u : TxSize). Wrote coded_by (learnt true) r (parts_element bo size u (parts_of size u) bc).tree true mid new) is v)
+      wrote_then coded_in learnt_in r (split_element bc bo size tbx tby).tree parts.tree true old mid new (split_first p true old mid e h)
+      (subst (λ (u : TxSize). Wrote coded_in learnt_in r (parts_element bo size u (parts_of size u) bc).tree true mid new) is v)
 
-  pub split_none : (p : Slot) (split : Bool) (old new : Standing (List ℕ)) → p ≡ slot (codes "txfm_partition_cdf") (context ∷ []) → split ≡ false → Writes coded_by (learnt true) (flag (Adaptive p)).tree split old new → Writes coded_by (learnt true) (split_element bc bo size tbx tby).tree split old new
+  pub split_none : (p : Slot) (split : Bool) (old new : Standing Context) → p ≡ slot (codes "txfm_partition_cdf") (context ∷ []) → split ≡ false → Writes coded_in learnt_in (flag (Adaptive p)).tree split old new → Writes coded_in learnt_in (split_element bc bo size tbx tby).tree split old new
   split_none p true old new e t h = absurd (let z : ⊥ = cc in z)
   split_none p false old new e t h = split_first p false old new e h
 
@@ -262,37 +262,37 @@ module _ (size : BlockSize) (part : TxSize) (is : part ≡ halved 1 (max_tx_size
       }
 
 -- one part after another
-module _ (bo : BlockOffset) (size : BlockSize) (part : TxSize) (ps : List (ℕ × ℕ)) (k : ℕ) (p : ℕ × ℕ) (at : get_or ps k (0, 0) ≡ p) (before : k < length ps) (t : Syntax Distribution Bool) (bc : BlockContext) (old mid new : Standing (List ℕ))
-    (came : Comes coded_by (learnt true) t (parts_element bo size part (drop k ps) bc).tree old mid) where
+module _ (bo : BlockOffset) (size : BlockSize) (part : TxSize) (ps : List (ℕ × ℕ)) (k : ℕ) (p : ℕ × ℕ) (at : get_or ps k (0, 0) ≡ p) (before : k < length ps) (t : Syntax Distribution Bool) (bc : BlockContext) (old mid new : Standing Context)
+    (came : Comes coded_in learnt_in t (parts_element bo size part (drop k ps) bc).tree old mid) where
   abbrev place : BlockOffset
   place = place_of bo part p
 
   rest : drop k ps ≡ p ∷ drop (k + 1) ps
   rest = drop_more ps k (0, 0) before ∙ ap (λ q. q ∷ drop (k + 1) ps) at
 
-  came_here : Comes coded_by (learnt true) t (parts_element bo size part (p ∷ drop (k + 1) ps) bc).tree old mid
-  came_here = subst (λ (qs : List (ℕ × ℕ)). Comes coded_by (learnt true) t (parts_element bo size part qs bc).tree old mid) rest came
+  came_here : Comes coded_in learnt_in t (parts_element bo size part (p ∷ drop (k + 1) ps) bc).tree old mid
+  came_here = subst (λ (qs : List (ℕ × ℕ)). Comes coded_in learnt_in t (parts_element bo size part qs bc).tree old mid) rest came
 
-  pub parts_step : Writes coded_by (learnt true) (part_element bc place size part p.0 p.1).tree false mid new → Comes coded_by (learnt true) t (parts_element bo size part (drop (k + 1) ps) (entered_tx place part bc)).tree old new
+  pub parts_step : Writes coded_in learnt_in (part_element bc place size part p.0 p.1).tree false mid new → Comes coded_in learnt_in t (parts_element bo size part (drop (k + 1) ps) (entered_tx place part bc)).tree old new
   parts_step w =
-      comes_then coded_by (learnt true) t (parts_element bo size part (p ∷ drop (k + 1) ps) bc).tree (parts_element bo size part (drop (k + 1) ps) (entered_tx place part bc)).tree old mid new came_here
-      (writes_first coded_by (learnt true) (part_element bc place size part p.0 p.1).tree (λ _. (parts_element bo size part (drop (k + 1) ps) (entered_tx place part bc)).tree) false mid new w)
+      comes_then coded_in learnt_in t (parts_element bo size part (p ∷ drop (k + 1) ps) bc).tree (parts_element bo size part (drop (k + 1) ps) (entered_tx place part bc)).tree old mid new came_here
+      (writes_first coded_in learnt_in (part_element bc place size part p.0 p.1).tree (λ _. (parts_element bo size part (drop (k + 1) ps) (entered_tx place part bc)).tree) false mid new w)
 
-  pub parts_begun : part ≡ halved 1 (max_tx_size size) → 1 ≤ number_of size → Begins coded_by (learnt true) (part_element bc place size part p.0 p.1).tree false mid new → Begins coded_by (learnt true) t true old new
+  pub parts_begun : part ≡ halved 1 (max_tx_size size) → 1 ≤ number_of size → Begins coded_in learnt_in (part_element bc place size part p.0 p.1).tree false mid new → Begins coded_in learnt_in t true old new
   parts_begun is larger b =
       let rest = parts_element bo size part (drop (k + 1) ps) (entered_tx place part bc) in
       let leads = subst (λ (u : TxSize). let e = parts_element bo size u (drop (k + 1) ps) (entered_tx (place_of bo u p) u bc) in Leads e.tree (e.symbols true) true) (sym is) ((parts_read size larger bo (drop (k + 1) ps) (entered_tx (place_of bo (halved 1 (max_tx_size size)) p) (halved 1 (max_tx_size size)) bc)).leads true refl) in
-      begins_then coded_by (learnt true) t (parts_element bo size part (p ∷ drop (k + 1) ps) bc).tree true old mid new came_here
-      (begins_first coded_by (learnt true) (part_element bc place size part p.0 p.1).tree (λ _. rest.tree) false true (rest.symbols true) mid new leads b)
+      begins_then coded_in learnt_in t (parts_element bo size part (p ∷ drop (k + 1) ps) bc).tree true old mid new came_here
+      (begins_first coded_in learnt_in (part_element bc place size part p.0 p.1).tree (λ _. rest.tree) false true (rest.symbols true) mid new leads b)
 
   pub entered_step : (start : BlockContext) → bc ≡ entered_parts bo part (take k ps) start → entered_tx place part bc ≡ entered_parts bo part (take (k + 1) ps) start
   entered_step start e =
       ap (entered_tx place part) e ∙ sym (entered_push bo part (take k ps) p start) ∙ ap (λ (q : ℕ × ℕ). entered_parts bo part (take k ps ++ q ∷ []) start) (sym at) ∙ sym (ap (λ (qs : List (ℕ × ℕ)). entered_parts bo part qs start) (take_more ps k (0, 0) before))
 
 -- all parts
-pub parts_end : (bo : BlockOffset) (size : BlockSize) (part : TxSize) (ps : List (ℕ × ℕ)) (k : ℕ) (t : Syntax Distribution Bool) (bc : BlockContext) (old new : Standing (List ℕ)) → k ≡ length ps → Comes coded_by (learnt true) t (parts_element bo size part (drop k ps) bc).tree old new →
-    Writes coded_by (learnt true) t true old new
-parts_end bo size part ps k t bc old new e came = subst (λ (qs : List (ℕ × ℕ)). Comes coded_by (learnt true) t (parts_element bo size part qs bc).tree old new) (ap (λ j. drop j ps) e ∙ drop-length ps) came
+pub parts_end : (bo : BlockOffset) (size : BlockSize) (part : TxSize) (ps : List (ℕ × ℕ)) (k : ℕ) (t : Syntax Distribution Bool) (bc : BlockContext) (old new : Standing Context) → k ≡ length ps → Comes coded_in learnt_in t (parts_element bo size part (drop k ps) bc).tree old new →
+    Writes coded_in learnt_in t true old new
+parts_end bo size part ps k t bc old new e came = subst (λ (qs : List (ℕ × ℕ)). Comes coded_in learnt_in t (parts_element bo size part qs bc).tree old new) (ap (λ j. drop j ps) e ∙ drop-length ps) came
 
 pub entered_end : (bo : BlockOffset) (part : TxSize) (ps : List (ℕ × ℕ)) (k : ℕ) (start bc : BlockContext) → k ≡ length ps → bc ≡ entered_parts bo part (take k ps) start → bc ≡ entered_parts bo part ps start
 entered_end bo part ps k start bc e h = h ∙ ap (λ (qs : List (ℕ × ℕ)). entered_parts bo part qs start) (ap (λ j. take j ps) e ∙ take-length ps)
@@ -322,14 +322,14 @@ only_whole zero l h = refl
 only_whole (suc zero) l h = absurd (h refl)
 only_whole (suc (suc n)) l h = absurd (omega (arith, l))
 
-pub inter_whole : {U E : Type 0} (r : Result U E) (bc : BlockContext) (bo : BlockOffset) (size : BlockSize) (tx : TxSize) (tbx tby depth : ℕ) (split : Bool) (old new : Standing (List ℕ)) → depth ≡ 0 →
-    Wrote coded_by (learnt true) r (split_element bc bo size tbx tby).tree split old new → Wrote coded_by (learnt true) r (tx_size_inter_element bc bo size tx tbx tby depth).tree split old new
-inter_whole r bc bo size tx tbx tby depth split old new e h = subst (λ n. Wrote coded_by (learnt true) r (tx_size_inter_element bc bo size tx tbx tby n).tree split old new) (sym e) h
+pub inter_whole : {U E : Type 0} (r : Result U E) (bc : BlockContext) (bo : BlockOffset) (size : BlockSize) (tx : TxSize) (tbx tby depth : ℕ) (split : Bool) (old new : Standing Context) → depth ≡ 0 →
+    Wrote coded_in learnt_in r (split_element bc bo size tbx tby).tree split old new → Wrote coded_in learnt_in r (tx_size_inter_element bc bo size tx tbx tby depth).tree split old new
+inter_whole r bc bo size tx tbx tby depth split old new e h = subst (λ n. Wrote coded_in learnt_in r (tx_size_inter_element bc bo size tx tbx tby n).tree split old new) (sym e) h
 
-pub inter_part : {U E : Type 0} (r : Result U E) (bc : BlockContext) (bo : BlockOffset) (size : BlockSize) (tx : TxSize) (tbx tby depth : ℕ) (split : Bool) (old new : Standing (List ℕ)) → depth ≡ 1 → split ≡ false →
-    Wrote coded_by (learnt true) r (part_element bc bo size tx tbx tby).tree false old new → Wrote coded_by (learnt true) r (tx_size_inter_element bc bo size tx tbx tby depth).tree split old new
+pub inter_part : {U E : Type 0} (r : Result U E) (bc : BlockContext) (bo : BlockOffset) (size : BlockSize) (tx : TxSize) (tbx tby depth : ℕ) (split : Bool) (old new : Standing Context) → depth ≡ 1 → split ≡ false →
+    Wrote coded_in learnt_in r (part_element bc bo size tx tbx tby).tree false old new → Wrote coded_in learnt_in r (tx_size_inter_element bc bo size tx tbx tby depth).tree split old new
 inter_part r bc bo size tx tbx tby depth split old new e f h =
-    subst (λ n. Wrote coded_by (learnt true) r (tx_size_inter_element bc bo size tx tbx tby n).tree split old new) (sym e) (subst (λ (b : Bool). Wrote coded_by (learnt true) r (part_element bc bo size tx tbx tby).tree b old new) (sym f) h)
+    subst (λ n. Wrote coded_in learnt_in r (tx_size_inter_element bc bo size tx tbx tby n).tree split old new) (sym e) (subst (λ (b : Bool). Wrote coded_in learnt_in r (part_element bc bo size tx tbx tby).tree b old new) (sym f) h)
 
 pub entered_part : {U E : Type 0} (r : Result U E) (bo : BlockOffset) (size : BlockSize) (tx : TxSize) (split : Bool) (old new : BlockContext) → split ≡ false → OnOk r (new ≡ entered_tx bo tx old) → OnOk r (new ≡ entered_split bo size tx split old)
 entered_part r bo size tx split old new f h = subst (λ (b : Bool). OnOk r (new ≡ entered_split bo size tx b old)) (sym f) h

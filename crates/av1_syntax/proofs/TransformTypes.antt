@@ -8,7 +8,7 @@ use Rattle.std.proofs.lemmas.List.Folds.{Any-from_list_any}
 use Rattle.std.proofs.lemmas.List.FromFn.{get_or-map-range_with_len, get_or-range_with_len}
 use Rattle.std.proofs.lemmas.List.Sums.{passes_at_first, fails_before_first}
 use Rattle.std.proofs.lemmas.Option.{slice_get-get_or, slice_get_past, slice_get_within}
-use Rattle.av1_cdf.specs.Distribution.{HasSymbols, coded_by, learnt}
+use Rattle.av1_cdf.specs.Distribution.{HasSymbols}
 use Rattle.av1_cdf.specs.Distribution.Distribution.{Adaptive}
 use Rattle.av1_cdf.specs.Layout.{Slot, slot, layout, fields, vector_fields, component_fields}
 use Rattle.av1_cdf.specs.Runs.{has_run}
@@ -29,6 +29,7 @@ use Rattle.av1_model.specs.Element.{known, Reads}
 use Rattle.av1_model.specs.Syntax.Syntax.{Done}
 use Rattle.av1_model.proofs.ComesLaws.{stays}
 use Rattle.av1_model.proofs.ElementLaws.{known_reads, reads_as, symbol_reads}
+use Rattle.av1_syntax.specs.Calls.{Context, coded_in, learnt_in}
 use Rattle.av1_syntax.specs.TransformTypes.{type_slot, type_in, type_of_set, tx_type_slot, tx_type_element}
 use Rattle.av1_syntax.proofs.Writing.{wrote_symbol}
 
@@ -195,14 +196,14 @@ only TX_SET_INTRA_1 sqr mode t h e = absurd cc
 only TX_SET_INTER_2 sqr mode t h e = absurd cc
 only TX_SET_INTER_1 sqr mode t h e = absurd cc
 
-pub type_none : (tx : TxSize) (mode : PredictionMode) (inter reduced : Bool) (t : TxType) (at : Standing (List ℕ)) → IsTrue (uses (tx_set tx inter reduced) t) → None ≡ tx_type_slot tx mode inter reduced →
-    Writes coded_by (learnt true) (tx_type_element tx mode inter reduced).tree t at at
+pub type_none : (tx : TxSize) (mode : PredictionMode) (inter reduced : Bool) (t : TxType) (at : Standing Context) → IsTrue (uses (tx_set tx inter reduced) t) → None ≡ tx_type_slot tx mode inter reduced →
+    Writes coded_in learnt_in (tx_type_element tx mode inter reduced).tree t at at
 type_none tx mode inter reduced t at h e =
-    subst (λ (o : Option Slot). Writes coded_by (learnt true) (type_of_set (tx_set tx inter reduced) o).tree t at at) e
-    (subst (λ t. Writes coded_by (learnt true) (Done DCT_DCT) t at at) (sym (only (tx_set tx inter reduced) _ _ t h (sym e))) (stays coded_by (learnt true) (Done DCT_DCT) at))
+    subst (λ (o : Option Slot). Writes coded_in learnt_in (type_of_set (tx_set tx inter reduced) o).tree t at at) e
+    (subst (λ t. Writes coded_in learnt_in (Done DCT_DCT) t at at) (sym (only (tx_set tx inter reduced) _ _ t h (sym e))) (stays coded_in learnt_in (Done DCT_DCT) at))
 
-pub type_wrote : {U E : Type 0} (r : Result U E) (tx : TxSize) (mode : PredictionMode) (inter reduced : Bool) (t : TxType) (s : ℕ) (p : Slot) (old new : Standing (List ℕ)) → IsTrue (uses (tx_set tx inter reduced) t) → Some p ≡ tx_type_slot tx mode inter reduced →
-    s ≡ index_in (tx_set tx inter reduced) t → OnOk r (Stores coded_by (learnt true) (Adaptive p) s old new) → OnErr r (new ≡ old) → Wrote coded_by (learnt true) r (tx_type_element tx mode inter reduced).tree t old new
+pub type_wrote : {U E : Type 0} (r : Result U E) (tx : TxSize) (mode : PredictionMode) (inter reduced : Bool) (t : TxType) (s : ℕ) (p : Slot) (old new : Standing Context) → IsTrue (uses (tx_set tx inter reduced) t) → Some p ≡ tx_type_slot tx mode inter reduced →
+    s ≡ index_in (tx_set tx inter reduced) t → OnOk r (Stores coded_in learnt_in (Adaptive p) s old new) → OnErr r (new ≡ old) → Wrote coded_in learnt_in r (tx_type_element tx mode inter reduced).tree t old new
 type_wrote r tx mode inter reduced t s p old new h is e ok err =
     let set = tx_set tx inter reduced in
-    subst (λ (o : Option Slot). Wrote coded_by (learnt true) r (type_of_set set o).tree t old new) is (wrote_symbol r p p (slice_get (coded_types set)) (index_in set) s t old new refl e (told set t h) ok err)
+    subst (λ (o : Option Slot). Wrote coded_in learnt_in r (type_of_set set o).tree t old new) is (wrote_symbol r p p (slice_get (coded_types set)) (index_in set) s t old new refl e (told set t h) ok err)

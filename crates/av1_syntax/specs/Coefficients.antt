@@ -101,10 +101,10 @@ sizes_element size p class scan n = sizes_after (base_distribution size p class 
 abbrev pub signs_element : ℕ → ℕ → List ℕ → Element Distribution (List ℤ)
 signs_element p context sizes = levels_after (sign_distribution p context) [] sizes
 
--- one or more levels in the order of a scan: their number, their sizes up to 15, and they themselves
-abbrev pub block_element : TxSize → ℕ → ℕ → TxClass → List ℕ → Element Distribution (List ℤ)
-block_element size p context class scan =
-    after (end_element size p (one_dimensional class)) (λ n. after (sizes_element size p class scan n) (signs_element p context) (map cut_level)) length
+-- one or more levels in the order of a scan: their number, whose class goes by the coded area or by the whole, their sizes up to 15, and they themselves
+abbrev pub block_element : Bool → TxSize → ℕ → ℕ → TxClass → List ℕ → Element Distribution (List ℤ)
+block_element by_coded size p context class scan =
+    after (end_element by_coded size p (one_dimensional class)) (λ n. after (sizes_element size p class scan n) (signs_element p context) (map cut_level)) length
 
 abbrev pub are_none : List ℤ → Bool
 are_none [] = true
@@ -117,11 +117,11 @@ plane_type (suc plane) = 1
 
 -- The type of a transform and its levels. `types` tells the type of a block that has levels, `without` is that of one that has
 -- none, and `scans` has a scan for each class.
-abbrev pub coeffs_among : Element Distribution TxType → TxType → TxSize → ℕ → TXB_CTX → (TxClass → List ℕ) → Element Distribution (TxType × List ℤ)
-coeffs_among types without size p contexts scans =
+abbrev pub coeffs_among : Bool → Element Distribution TxType → TxType → TxSize → ℕ → TXB_CTX → (TxClass → List ℕ) → Element Distribution (TxType × List ℤ)
+coeffs_among by_coded types without size p contexts scans =
     after (flag (adaptive (codes "txb_skip_cdf") (size_context size ∷ contexts.txb_skip_ctx ∷ [])))
     (λ none. choose none (known (without, []))
-    (after types (λ t. renamed (block_element size p contexts.dc_sign_ctx (class_of t) (scans (class_of t))) (λ levels. (t, levels)) (λ a. a.1)) (λ a. a.0))) (λ a. are_none a.1)
+    (after types (λ t. renamed (block_element by_coded size p contexts.dc_sign_ctx (class_of t) (scans (class_of t))) (λ levels. (t, levels)) (λ a. a.1)) (λ a. a.0))) (λ a. are_none a.1)
 
 abbrev pub is_inter : PredictionMode → Bool
 is_inter mode = nat_le 14 (prediction_mode_number mode)
@@ -142,9 +142,9 @@ IsTyped zero size mode reduced given t = IsTrue (uses (tx_set size (is_inter mod
 IsTyped (suc plane) size mode reduced given t = t ≡ given
 
 -- the coefficients of a transform block of a plane, where chroma has the given type
-abbrev pub coeffs_element : ℕ → TxSize → PredictionMode → Bool → TxType → TXB_CTX → (TxClass → List ℕ) → Element Distribution (TxType × List ℤ)
-coeffs_element plane size mode reduced given contexts scans =
-    coeffs_among (types_element plane size mode reduced given) (type_without plane given) size (plane_type plane) contexts scans
+abbrev pub coeffs_element : Bool → ℕ → TxSize → PredictionMode → Bool → TxType → TXB_CTX → (TxClass → List ℕ) → Element Distribution (TxType × List ℤ)
+coeffs_element by_coded plane size mode reduced given contexts scans =
+    coeffs_among by_coded (types_element plane size mode reduced given) (type_without plane given) size (plane_type plane) contexts scans
 
 -- levels of which the last is not 0, each of a size below 2^20, and no more than are coded
 pub record AreLevels (most : ℕ) (levels : List ℤ) : Type 0 where

@@ -1,8 +1,9 @@
 -- The end of a transform block, which is the number of its coefficients up to the last one that is not zero: eob_pt, eob_extra and eob_extra_bit of the AV1 specification.
-use Rattle.std.specs.Prelude.{ℕ, zero, suc, ◌+◌, ◌-◌, ◌*◌, ◌/◌, ◌%◌, ◌^◌, [], ◌∷◌, nat_lt, nat_le, if◌then◌else◌, Some, None, codes, List, min, slice_index_or, Option}
+use Rattle.std.specs.Prelude.{ℕ, zero, suc, ◌+◌, ◌-◌, ◌*◌, ◌/◌, ◌%◌, ◌^◌, [], ◌∷◌, nat_lt, nat_le, if◌then◌else◌, Some, None, codes, List, Bool, min, slice_index_or, Option}
 use Rattle.av1_cdf.specs.Distribution.{Distribution}
 use Rattle.av1_geometry.specs.CoefficientTables.{eob_class, group_start, offset_bits}
 use Rattle.av1_geometry.specs.TxSize.{tx_width_log2, tx_height_log2}
+use Rattle.av1_geometry.specs.TxTables.{coded_size}
 use Rattle.av1_geometry.specs.declared.tx_size.TxSize.{TxSize}
 use Rattle.av1_coef.specs.Contexts.{coded_area, size_context}
 use Rattle.av1_model.specs.Element.{Element, known, symbol, after, renamed, tested}
@@ -42,12 +43,13 @@ class_fields =
     ∷ codes "eob_flag_cdf1024"
     ∷ []
 
-abbrev pub area_number : TxSize → ℕ
-area_number size = min (tx_width_log2 size + tx_height_log2 size - 4) 6
+-- the number of the field of a transform, by the area that is coded or by the whole
+abbrev pub area_number : Bool → TxSize → ℕ
+area_number by_coded size = let of = if by_coded then coded_size size else size in min (tx_width_log2 of + tx_height_log2 of - 4) 6
 
 -- the end of a block of a transform of this size, in luma (0) or chroma (1), where the type is two-dimensional (0) or not (1)
-abbrev pub end_element : TxSize → ℕ → ℕ → Element Distribution ℕ
-end_element size p one_dimensional =
-    let k = area_number size in
+abbrev pub end_element : Bool → TxSize → ℕ → ℕ → Element Distribution ℕ
+end_element by_coded size p one_dimensional =
+    let k = area_number by_coded size in
     end_among (adaptive (slice_index_or class_fields k []) (p ∷ one_dimensional ∷ [])) (5 + k) (λ class. adaptive (codes "eob_extra_cdf") (size_context size ∷ p ∷ (class - 3) ∷ []))
     (coded_area size)

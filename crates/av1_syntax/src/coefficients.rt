@@ -58,6 +58,18 @@ fn range_cdf(block: CoeffBlock, levels: &[u8], at: usize) -> CDFOffset
     CDFContext::coeff_br_cdf(block.txs_ctx.min(3), block.plane_type, context)
 }
 
+// How often the area of a transform, or the coded part of it, doubles that of 4x4, up to 6 times.
+fn area_doublings(by_coded: bool, size: TxSize) -> usize
+    ensures { result ≡ area_number by_coded size }
+{
+    let size = if by_coded {
+        av1_get_coded_tx_size(size)
+    } else {
+        size
+    };
+    (size.area_log2() - 4).min(6)
+}
+
 // The distribution of the class of an end, by how often the area of the transform doubles that of 4x4.
 fn eob_flag_cdf(doublings: usize, plane_type: usize, context: usize) -> CDFOffset
     requires doublings { doublings ≤ 6 }
@@ -150,13 +162,13 @@ impl ContextWriter {
         requires plane { block.plane_type < 2 }
         requires cdfs { AreCdfs self.old.fc }
         requires shift { (W.position w.old).shift + 130 ≤ 2 ^ 28 + 2 ^ 24 }
-        ensures wrote { let end = end_element block.tx_size block.plane_type (one_dimensional block.tx_class) in
+        ensures wrote { let end = end_element self.old.eob_by_coded block.tx_size block.plane_type (one_dimensional block.tx_class) in
             Coded W.Known result end eob w.old w.new self.old self.new }
         ensures moves { Moved W.Known 130 w.old w.new self.old self.new }
         ensures rest { self.new.bc ≡ self.old.bc }
     {
         let (class, extra) = get_eob_pos_token(eob);
-        let doublings = (block.tx_size.area_log2() - 4).min(6);
+        let doublings = area_doublings(self.eob_by_coded, block.tx_size);
         let context = one_dimensional(block.tx_class);
         let flag = eob_flag_cdf(doublings, block.plane_type, context);
         self.symbol(w, class - 1, flag)?;
@@ -358,7 +370,7 @@ impl ContextWriter {
         requires plane { block.plane_type < 2 }
         requires cdfs { AreCdfs self.old.fc }
         requires shift { (W.position w.old).shift + 918658 ≤ 2 ^ 28 + 2 ^ 24 }
-        ensures wrote { let levels = block_element block.tx_size block.plane_type dc_sign_ctx block.tx_class scan.now in
+        ensures wrote { let levels = block_element self.old.eob_by_coded block.tx_size block.plane_type dc_sign_ctx block.tx_class scan.now in
             Coded W.Known result levels (levels_at (map T.value coeffs.now) scan.now eob) w.old w.new self.old self.new }
         ensures total { IfOk result (λ s. s ≡ sum_by unsigned_abs (levels_at (map T.value coeffs.now) scan.now eob)) }
         ensures moves { Moved W.Known 918658 w.old w.new self.old self.new }

@@ -1,7 +1,6 @@
 // What the write calls move.
-ghost use Rattle.std.specs.Prelude.{◌≡◌, ℕ, List, take, ◌+◌, ◌*◌, ◌^◌, ◌<◌, ◌≤◌, true, OnOk, OnErr, length};
+ghost use Rattle.std.specs.Prelude.{◌≡◌, ℕ, List, take, ◌+◌, ◌*◌, ◌^◌, ◌<◌, ◌≤◌, true, false, OnOk, OnErr, length};
 ghost use Rattle.av1_cdf.specs.Context.{AreCdfs};
-ghost use Rattle.av1_cdf.specs.Distribution.{coded_by, learnt};
 ghost use Rattle.av1_cdf.specs.Distribution.Distribution.{Adaptive, Fixed};
 ghost use Rattle.av1_cdf.specs.Log.{stored};
 ghost use Rattle.av1_cdf.specs.Slots.{slot_of};
@@ -20,6 +19,12 @@ pub struct ContextWriter {
     pub bc: BlockContext,
     pub fc: CDFContext,
     pub fc_log: CDFContextLog,
+
+    /// Whether the distributions learn from the symbols that are coded.
+    pub adapt: bool,
+
+    /// Whether the class of an end of coefficients goes by the coded size of the transform, and not by the whole.
+    pub eob_by_coded: bool,
 }
 
 /// A moment of a writer of syntax (rav1e, `context/mod.rs`).
@@ -33,20 +38,24 @@ impl ContextWriter {
     ghost use Rattle.av1_blocks.specs.Edges.{taken, with_edges};
     ghost use Rattle.av1_cdf.specs.Log.{IsReached, IsWithin, undone, saves_of, small_saves, large_saves};
     ghost use Rattle.av1_cdf.specs.declared.log.CDFContextCheckpoint.{CDFContextCheckpoint};
-    ghost use Rattle.av1_syntax.specs.Calls.{stands, Coded, Moved};
+    ghost use Rattle.av1_syntax.specs.Calls.{stands, coded_in, learnt_in, Coded, Moved};
     ghost use Rattle.av1_syntax.specs.Flags.{flag};
     ghost use Rattle.av1_syntax.specs.Literals.{literal};
 
-    /// A writer of a tile, with an empty log.
+    /// A writer of a tile, with an empty log. Its distributions learn, and the class of an end goes by the whole size.
     pub fn new(alloc: Global, fc: CDFContext, bc: BlockContext) -> Self
         ensures fc { result.fc ≡ fc }
         ensures bc { result.bc ≡ bc }
         ensures log { stored result.fc_log ≡ 0 }
+        ensures adapt { result.adapt ≡ true }
+        ensures eob_by_coded { result.eob_by_coded ≡ false }
     {
         ContextWriter {
             bc,
             fc,
             fc_log: CDFContextLog::new(alloc),
+            adapt: true,
+            eob_by_coded: false,
         }
     }
 
@@ -67,12 +76,13 @@ impl ContextWriter {
         }
     }
 
-    /// The context and the edges go back to a checkpoint that the log still reaches; the grid stays. Each checkpoint that
-    /// reaches no further stands for the context that it stood for.
+    /// The context and the edges go back to a checkpoint that the log still reaches; the grid and the switches stay. Each
+    /// checkpoint that reaches no further stands for the context that it stood for.
     pub fn rollback(&mut self, checkpoint: &ContextWriterCheckpoint)
         requires { IsReached self.old.fc_log checkpoint.now.fc }
         ensures context { self.new.fc ≡ undone self.old.fc_log self.old.fc checkpoint.now.fc }
         ensures edges { self.new.bc ≡ with_edges checkpoint.now.bc self.old.bc }
+        ensures switches { (self.new.adapt ≡ self.old.adapt) × (self.new.eob_by_coded ≡ self.old.eob_by_coded) }
         ensures cut { let c = checkpoint.now.fc in let log = self.old.fc_log in
             saves_of self.new.fc_log ≡ (take c.small (small_saves log), take c.large (large_saves log)) }
         ensures reached { (c : CDFContextCheckpoint) → IsWithin c checkpoint.now.fc → IsReached self.new.fc_log c }
@@ -82,8 +92,8 @@ impl ContextWriter {
         self.bc.rollback(&checkpoint.bc);
     }
 
-    // Codes a symbol of a distribution of the context, which learns from it: `symbol_with_update!` of rav1e. A refusal
-    // leaves writer and context as they were.
+    // Codes a symbol of a distribution of the context, which learns from it where distributions learn: `symbol_with_update!` of
+    // rav1e. A refusal leaves writer and context as they were.
     #[inline(always)]
     pub(crate) fn symbol<W: Writer>(
         &mut self,
@@ -94,7 +104,31 @@ impl ContextWriter {
         requires cdfs { AreCdfs self.old.fc }
         requires s { s < cdf.len }
         requires shift { (W.position w.old).shift + 13 ≤ 2 ^ 28 + 2 ^ 24 }
-        ensures ok { OnOk result (Stores coded_by (learnt true) (Adaptive (slot_of cdf)) s (stands W.Known w.old self.old) (stands W.Known w.new self.new)) }
+        ensures ok { OnOk result (Stores coded_in learnt_in (Adaptive (slot_of cdf)) s (stands W.Known w.old self.old) (stands W.Known w.new self.new)) }
+        ensures err { OnErr result (stands W.Known w.new self.new ≡ stands W.Known w.old self.old) }
+        ensures moves { Moved W.Known 13 w.old w.new self.old self.new }
+        ensures rest { self.new.bc ≡ self.old.bc }
+    {
+        if self.adapt {
+            self.learnt_symbol(w, s, cdf)
+        } else {
+            self.fixed_symbol(w, s, self.fc.values_of(cdf))
+        }
+    }
+
+    // Codes a symbol of a distribution of the context, which learns from it.
+    #[inline(always)]
+    fn learnt_symbol<W: Writer>(
+        &mut self,
+        w: &mut W,
+        s: u32,
+        cdf: CDFOffset,
+    ) -> Result<(), OutOfMemory>
+        requires adapt { self.old.adapt ≡ true }
+        requires cdfs { AreCdfs self.old.fc }
+        requires s { s < cdf.len }
+        requires shift { (W.position w.old).shift + 13 ≤ 2 ^ 28 + 2 ^ 24 }
+        ensures ok { OnOk result (Stores coded_in learnt_in (Adaptive (slot_of cdf)) s (stands W.Known w.old self.old) (stands W.Known w.new self.new)) }
         ensures err { OnErr result (stands W.Known w.new self.new ≡ stands W.Known w.old self.old) }
         ensures moves { Moved W.Known 13 w.old w.new self.old self.new }
         ensures rest { self.new.bc ≡ self.old.bc }
@@ -115,7 +149,7 @@ impl ContextWriter {
         requires cdf { IsCdf cdf.now }
         requires s { s < length cdf.now }
         requires shift { (W.position w.old).shift + 13 ≤ 2 ^ 28 + 2 ^ 24 }
-        ensures ok { OnOk result (Stores coded_by (learnt true) (Fixed cdf.now) s (stands W.Known w.old self.now) (stands W.Known w.new self.now)) }
+        ensures ok { OnOk result (Stores coded_in learnt_in (Fixed cdf.now) s (stands W.Known w.old self.now) (stands W.Known w.new self.now)) }
         ensures err { OnErr result (stands W.Known w.new self.now ≡ stands W.Known w.old self.now) }
         ensures moves { Moved W.Known 13 w.old w.new self.now self.now }
     {

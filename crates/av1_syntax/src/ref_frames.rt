@@ -38,6 +38,7 @@ impl ContextWriter {
         ensures counts { self.new.bc ≡ with_counts bo.0 self.old.bc }
         ensures fc { self.new.fc ≡ self.old.fc }
         ensures log { self.new.fc_log ≡ self.old.fc_log }
+        ensures switches { (self.new.adapt ≡ self.old.adapt) × (self.new.eob_by_coded ≡ self.old.eob_by_coded) }
     {
         let mut block = *self.bc.blocks.at(bo);
         block.neighbors_ref_counts = av1_mvref::ref_counts(&self.bc.blocks.as_const(), bo);

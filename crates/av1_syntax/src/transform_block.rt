@@ -124,7 +124,7 @@ impl ContextWriter {
         requires early { (W.position w.old).shift ≤ 2 ^ 28 }
         ensures answer { IfOk result (λ some. some ≡ nat_lt 0 eob) }
         ensures wrote { let contexts = block_contexts self.old.bc plane bo.0 plane_bsize tx_size xdec ydec frame_clipped_txw frame_clipped_txh in
-            let element = coeffs_element plane tx_size pred_mode use_reduced_tx_set tx_type contexts in
+            let element = coeffs_element self.old.eob_by_coded plane tx_size pred_mode use_reduced_tx_set tx_type contexts in
             let levels = levels_at (map T.value coeffs_in.now) scan.now eob in
             CoeffsCoded W.Known result element tx_type scan.now levels w.old w.new self.old self.new }
         ensures edges { let entry = entry_of (levels_at (map T.value coeffs_in.now) scan.now eob) in

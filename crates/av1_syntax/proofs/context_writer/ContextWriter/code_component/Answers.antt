@@ -1,6 +1,6 @@
 use Rattle.std.proofs.Common.{arith}
-use Rattle.av1_ec.proofs.MovesLaws.{moves_then}
 use Rattle.av1_syntax.proofs.VectorWrites.{component_refused, component_wrote}
+use Rattle.av1_syntax.proofs.Moving.{moves_then}
 use Rattle.av1_syntax.proofs.context_writer.ContextWriter.code_component.Goals as goal
 
 pub returns-in_err-flag-clause-wrote : goal.returns-in_err-flag-clause-wrote

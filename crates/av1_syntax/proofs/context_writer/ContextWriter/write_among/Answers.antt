@@ -1,12 +1,11 @@
-use Rattle.std.proofs.Common.{◌∙◌, [], ◌∷◌, true, ap, subst, codes, arith}
+use Rattle.std.proofs.Common.{◌∙◌, [], ◌∷◌, ap, subst, codes, arith}
 use Rattle.av1_blocks.specs.declared.block_context.BlockContext.{BlockContext}
-use Rattle.av1_cdf.specs.Distribution.{coded_by, learnt}
 use Rattle.av1_cdf.specs.Layout.{slot}
-use Rattle.av1_ec.proofs.MovesLaws.{moves_then}
 use Rattle.av1_model.specs.Comes.{Wrote}
-use Rattle.av1_syntax.specs.Calls.{stands}
+use Rattle.av1_syntax.specs.Calls.{stands, coded_in, learnt_in}
 use Rattle.av1_syntax.specs.RefFrames.{two_element}
 use Rattle.av1_syntax.proofs.InterWrites.{among_one, among_refused, among_two, among_alone}
+use Rattle.av1_syntax.proofs.Moving.{moves_then}
 use Rattle.av1_syntax.proofs.context_writer.ContextWriter.write_among.Goals as goal
 
 pub returns-then-not-two-clause-wrote : goal.returns-then-not-two-clause-wrote
@@ -24,7 +23,7 @@ returns-then-pair-clause-wrote g c =
     let new = stands g.W.Known c.write_two.new.w c.write_two.new.self in
     among_two c.write_two.result c.args.self.now.bc.blocks c.args.bo.0 c.args.contexts c.args.first c.args.second c.args.two c.is_second-pair.result _ _ mid new c.if-not-two.false c.is_second-pair.ensures
     (c.comp_mode_cdf-cdf.ensures ∙ ap (λ k. slot (codes "comp_mode_cdf") (k ∷ [])) c.get_comp_mode_ctx.ensures.value) c.if-pair.true c.in_ok-flag.ensures.wrote
-    (subst (λ (bc : BlockContext). Wrote coded_by (learnt true) c.write_two.result (two_element bc.blocks c.args.bo.0 c.args.contexts).tree (c.args.first, c.args.second) mid new) c.in_ok-flag.ensures.rest c.write_two.ensures.wrote)
+    (subst (λ (bc : BlockContext). Wrote coded_in learnt_in c.write_two.result (two_element bc.blocks c.args.bo.0 c.args.contexts).tree (c.args.first, c.args.second) mid new) c.in_ok-flag.ensures.rest c.write_two.ensures.wrote)
 
 pub returns-then-pair-clause-moves : goal.returns-then-pair-clause-moves
 returns-then-pair-clause-moves g c = moves_then g.W.Known 13 65 78 _ _ _ _ _ _ _ _ _ (omega arith) c.in_ok-flag.ensures.moves c.write_two.ensures.moves

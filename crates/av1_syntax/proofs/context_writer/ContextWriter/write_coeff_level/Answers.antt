@@ -1,10 +1,9 @@
-use Rattle.std.proofs.Common.{◌≡◌, ◌-◌, Bool, unsigned_abs, true, w32, subst, arith}
+use Rattle.std.proofs.Common.{◌≡◌, ◌-◌, Bool, unsigned_abs, w32, subst, arith}
 use Rattle.std.proofs.lemmas.Int.{to_z-of_z}
-use Rattle.av1_cdf.specs.Distribution.{coded_by, learnt}
 use Rattle.av1_cdf.specs.Slots.{slot_of}
 use Rattle.av1_model.specs.Comes.{Writes, Begins, Wrote}
 use Rattle.av1_model.proofs.ComesLaws.{wrote_err}
-use Rattle.av1_syntax.specs.Calls.{stands}
+use Rattle.av1_syntax.specs.Calls.{stands, coded_in, learnt_in}
 use Rattle.av1_syntax.specs.Flags.{flag}
 use Rattle.av1_syntax.specs.Levels.{sign_by, is_negative, level_element, cut_level, golomb_element}
 use Rattle.av1_syntax.proofs.LevelWrites.{level_begun, level_small, level_great, some_size}
@@ -19,8 +18,8 @@ returns-in_err-write_coeff_sign-clause-wrote g c =
     let fits = to_z-of_z w32 v c.ranges.level in
     let sign : c.is_negative.result ≡ is_negative v = rw fits at c.is_negative.ensures in
     let some = some_size v c.if-level-eq0.false in
-    wrote_err coded_by (learnt true) c.from_residual.result (level_element q (cut_level v)).tree v old new c.from_residual.ensures.0
-    (level_begun q v old new some c.requires.small (subst (λ (n : Bool). Begins coded_by (learnt true) (flag q).tree n old new) sign c.in_err-write_coeff_sign.ensures.wrote))
+    wrote_err coded_in learnt_in c.from_residual.result (level_element q (cut_level v)).tree v old new c.from_residual.ensures.0
+    (level_begun q v old new some c.requires.small (subst (λ (n : Bool). Begins coded_in learnt_in (flag q).tree n old new) sign c.in_err-write_coeff_sign.ensures.wrote))
 
 pub returns-then-size-lt15-clause-wrote : goal.returns-then-size-lt15-clause-wrote
 returns-then-size-lt15-clause-wrote g c =
@@ -32,7 +31,7 @@ returns-then-size-lt15-clause-wrote g c =
     let sign : c.is_negative.result ≡ is_negative v = rw fits at c.is_negative.ensures in
     let size : c.unsigned_abs-size.result ≡ unsigned_abs v = rw fits at c.unsigned_abs-size.ensures.value in
     let some = some_size v c.if-level-eq0.false in
-    level_small q v old new some (omega (arith, size, c.if-size-lt15.true)) (subst (λ (n : Bool). Writes coded_by (learnt true) (flag q).tree n old new) sign c.in_ok-write_coeff_sign.ensures.wrote)
+    level_small q v old new some (omega (arith, size, c.if-size-lt15.true)) (subst (λ (n : Bool). Writes coded_in learnt_in (flag q).tree n old new) sign c.in_ok-write_coeff_sign.ensures.wrote)
 
 pub returns-clause-wrote : goal.returns-clause-wrote
 returns-clause-wrote g c =
@@ -44,5 +43,5 @@ returns-clause-wrote g c =
     let fits = to_z-of_z w32 v c.ranges.level in
     let sign : c.is_negative.result ≡ is_negative v = rw fits at c.is_negative.ensures in
     let size : c.unsigned_abs-size.result ≡ unsigned_abs v = rw fits at c.unsigned_abs-size.ensures.value in
-    level_great q v c.write_golomb.result old mid new (omega (arith, size, c.if-size-lt15.false)) c.requires.small (subst (λ (n : Bool). Writes coded_by (learnt true) (flag q).tree n old mid) sign c.in_ok-write_coeff_sign.ensures.wrote)
-    (subst (λ n. Wrote coded_by (learnt true) c.write_golomb.result golomb_element.tree (n - 15) mid new) size c.write_golomb.ensures.wrote)
+    level_great q v c.write_golomb.result old mid new (omega (arith, size, c.if-size-lt15.false)) c.requires.small (subst (λ (n : Bool). Writes coded_in learnt_in (flag q).tree n old mid) sign c.in_ok-write_coeff_sign.ensures.wrote)
+    (subst (λ n. Wrote coded_in learnt_in c.write_golomb.result golomb_element.tree (n - 15) mid new) size c.write_golomb.ensures.wrote)

@@ -1,12 +1,11 @@
-use Rattle.std.proofs.Common.{◌+◌, ◌*◌, ◌∙◌, min, true, refl, arith}
-use Rattle.av1_cdf.specs.Distribution.{coded_by, learnt}
+use Rattle.std.proofs.Common.{◌+◌, ◌*◌, ◌∙◌, min, refl, arith}
 use Rattle.av1_cdf.specs.Distribution.Distribution.{Adaptive}
 use Rattle.av1_cdf.specs.Slots.{slot_of}
-use Rattle.av1_ec.proofs.MovesLaws.{moves_then, moves_none}
 use Rattle.av1_model.proofs.ComesLaws.{wrote_err}
-use Rattle.av1_syntax.specs.Calls.{stands}
+use Rattle.av1_syntax.specs.Calls.{stands, coded_in, learnt_in}
 use Rattle.av1_syntax.specs.Levels.{range_element}
 use Rattle.av1_syntax.proofs.LevelWrites.{range_on, range_end, range_begun, range_starts}
+use Rattle.av1_syntax.proofs.Moving.{moves_then, moves_none}
 use Rattle.av1_syntax.proofs.context_writer.ContextWriter.write_coeff_range.Goals as goal
 
 pub loop-turn-init : goal.loop-turn-init
@@ -14,7 +13,7 @@ loop-turn-init g c = record {
   read = refl;
   enough = c.requires.size;
   came = range_starts (Adaptive (slot_of c.args.cdf)) (stands g.W.Known c.args.w.now c.args.self.now);
-  moves = moves_none g.W.Known (13 * 0) c.args.w.now c.args.self.now.fc_log c.args.self.now.fc_log c.args.self.now.fc c.args.self.now.fc refl refl c.requires.cdfs;
+  moves = moves_none g.W.Known (13 * 0) _ _ _ c.requires.cdfs;
   rest = refl;
 }
 
@@ -40,7 +39,7 @@ returns-in_err-symbol-clause-wrote g c =
     let old = stands g.W.Known c.args.w.now c.args.self.now in
     let mid = stands g.W.Known c.loop-turn.w c.loop-turn.self in
     let new = stands g.W.Known c.symbol.new.w c.symbol.new.self in
-    wrote_err coded_by (learnt true) c.from_residual.result (range_element q).tree (min c.args.size 15) old new c.from_residual.ensures.0
+    wrote_err coded_in learnt_in c.from_residual.result (range_element q).tree (min c.args.size 15) old new c.from_residual.ensures.0
     (range_begun (range_element q).tree q c.loop-turn.turn c.loop-turn.read old mid new i.came (min c.args.size 15) (c.args.cdf.is_slot, c.requires.four) (omega (arith, i.read, i.enough, c.loop-turn-test.true))
     (omega (arith, i.read, i.enough, c.loop-turn-test.true)) c.in_err-symbol.ensures.err)
 

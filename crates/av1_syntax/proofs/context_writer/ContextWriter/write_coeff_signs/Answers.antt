@@ -1,19 +1,18 @@
-use Rattle.std.proofs.Common.{◌≡◌, ◌+◌, ◌*◌, ◌∙◌, nat_eq, ℤ, map, slice_index, unsigned_abs, true, refl, ap, subst, arith}
+use Rattle.std.proofs.Common.{◌≡◌, ◌+◌, ◌*◌, ◌∙◌, nat_eq, ℤ, map, slice_index, unsigned_abs, refl, ap, subst, arith}
 use Rattle.std.proofs.lemmas.List.{length-map}
-use Rattle.av1_cdf.specs.Distribution.{coded_by, learnt}
 use Rattle.av1_cdf.specs.Layout.{Slot}
 use Rattle.av1_cdf.specs.Slots.{slot_of}
 use Rattle.av1_coef.proofs.CodedSizes.{area_few}
-use Rattle.av1_ec.proofs.MovesLaws.{moves_then, moves_none, moves_as}
 use Rattle.av1_model.specs.Comes.{Writes, Begins}
 use Rattle.av1_model.proofs.ComesLaws.{wrote_err}
-use Rattle.av1_syntax.specs.Calls.{stands}
+use Rattle.av1_syntax.specs.Calls.{stands, coded_in, learnt_in}
 use Rattle.av1_syntax.specs.Coefficients.{value_at, levels_at, sizes_from, signs_element}
 use Rattle.av1_syntax.specs.Levels.{level_element, sign_by, cut_level}
 use Rattle.av1_syntax.proofs.CoeffKnown.{long}
 use Rattle.av1_syntax.proofs.CoeffLoops.{signs_start, signs_more, signs_refused, signs_done, total_more, total_all}
 use Rattle.av1_syntax.proofs.CoeffSlots.{dc_sign_has}
 use Rattle.av1_syntax.proofs.CoeffSteps.{inside, level_back}
+use Rattle.av1_syntax.proofs.Moving.{moves_then, moves_none, moves_as}
 use Rattle.av1_syntax.proofs.context_writer.ContextWriter.write_coeff_signs.Goals as goal
 
 pub bounds-scan-c : goal.bounds-scan-c
@@ -38,7 +37,7 @@ loop-c-init g c =
       came = signs_start b.tx_size b.tx_class c.args.scan.now c.args.eob values c.requires.coded b.plane_type c.requires.plane c.args.dc_sign_ctx c.requires.context (stands g.W.Known c.args.w.now c.args.self.now);
       sum = refl;
       few = omega arith;
-      moves = moves_none g.W.Known (832 * 0) c.args.w.now c.args.self.now.fc_log c.args.self.now.fc_log c.args.self.now.fc c.args.self.now.fc refl refl c.requires.cdfs;
+      moves = moves_none g.W.Known (832 * 0) _ _ _ c.requires.cdfs;
       rest = refl;
     }
 
@@ -73,7 +72,7 @@ loop-c-preserved g c =
     let back = level_back b.tx_size b.tx_class c.args.scan.now c.args.eob values c.requires.coded k c.loop-c-test.true x c.from.result c.level_at-level.ensures c.from.ensures in
     let is : x ≡ value_at values (slice_index c.args.scan.now k) = c.level_at-level.ensures ∙ ap (value_at values) c.from.ensures in
     let size : c.unsigned_abs-total.result ≡ unsigned_abs x = c.unsigned_abs-total.ensures.value ∙ ap unsigned_abs back.0 in
-    let wrote = subst (λ (v : ℤ). Writes coded_by (learnt true) (level_element (sign_by (nat_eq k 0) s) (cut_level v)).tree v mid new) {y = x} back.0 c.in_ok-write_coeff_level.ensures.wrote in
+    let wrote = subst (λ (v : ℤ). Writes coded_in learnt_in (level_element (sign_by (nat_eq k 0) s) (cut_level v)).tree v mid new) {y = x} back.0 c.in_ok-write_coeff_level.ensures.wrote in
     let sum = total_more b.tx_size b.tx_class c.args.scan.now c.args.eob values c.requires.coded b.plane_type c.requires.plane k c.unsigned_abs-total.result x c.loop-c-test.true is size in
     record {
       came = signs_more b.tx_size b.tx_class c.args.scan.now c.args.eob values c.requires.coded b.plane_type c.requires.plane c.args.dc_sign_ctx c.requires.context k 0 c.loop-c-test.true s c.dc_sign_cdf-cdf.ensures x is old mid new i.came wrote;
@@ -96,8 +95,8 @@ returns-in_err-write_coeff_level-clause-wrote g c =
     let s = slot_of c.dc_sign_cdf-cdf.result in
     let back = level_back b.tx_size b.tx_class c.args.scan.now c.args.eob values c.requires.coded k c.loop-c-test.true x c.from.result c.level_at-level.ensures c.from.ensures in
     let is : x ≡ value_at values (slice_index c.args.scan.now k) = c.level_at-level.ensures ∙ ap (value_at values) c.from.ensures in
-    let begun = subst (λ (v : ℤ). Begins coded_by (learnt true) (level_element (sign_by (nat_eq k 0) s) (cut_level v)).tree v mid new) {y = x} back.0 c.in_err-write_coeff_level.ensures.wrote in
-    wrote_err coded_by (learnt true) c.from_residual.result (signs_element b.plane_type c.args.dc_sign_ctx (sizes_from values c.args.scan.now c.args.eob 0)).tree (levels_at values c.args.scan.now c.args.eob) old new c.from_residual.ensures.0
+    let begun = subst (λ (v : ℤ). Begins coded_in learnt_in (level_element (sign_by (nat_eq k 0) s) (cut_level v)).tree v mid new) {y = x} back.0 c.in_err-write_coeff_level.ensures.wrote in
+    wrote_err coded_in learnt_in c.from_residual.result (signs_element b.plane_type c.args.dc_sign_ctx (sizes_from values c.args.scan.now c.args.eob 0)).tree (levels_at values c.args.scan.now c.args.eob) old new c.from_residual.ensures.0
     (signs_refused b.tx_size b.tx_class c.args.scan.now c.args.eob values c.requires.coded b.plane_type c.requires.plane c.args.dc_sign_ctx c.requires.context k 0 c.loop-c-test.true s c.dc_sign_cdf-cdf.ensures x is old mid new i.came begun)
 
 pub returns-in_err-write_coeff_level-clause-moves : goal.returns-in_err-write_coeff_level-clause-moves
@@ -123,4 +122,4 @@ returns-clause-total g c =
 pub returns-clause-moves : goal.returns-clause-moves
 returns-clause-moves g c =
     let end : c.loop-c.c ≡ c.args.eob = omega (arith, c.loop-c-test.false, c.loop-c.auto.c-end) in
-    moves_as g.W.Known (832 * c.loop-c.c) (832 * 1024) _ _ _ _ _ _ _ _ refl refl (omega (arith, end, c.requires.coded.few, area_few c.args.block.tx_size)) c.loop-c.invariant.moves
+    moves_as g.W.Known (832 * c.loop-c.c) (832 * 1024) _ _ _ _ _ _ (omega (arith, end, c.requires.coded.few, area_few c.args.block.tx_size)) c.loop-c.invariant.moves

@@ -1,11 +1,11 @@
 use Rattle.std.proofs.Common.{Ok, Err, sym, subst, arith, w16, rules}
 use Rattle.std.proofs.lemmas.Int.{to_z-of_z}
 use mir.Val.{SFits}
-use Rattle.av1_ec.proofs.MovesLaws.{moves_then}
 use Rattle.av1_geometry.specs.MotionVector.{is_vertical, is_horizontal}
 use Rattle.av1_geometry.specs.declared.motion_vector.MvJointType.{MvJointType}
 use Rattle.av1_syntax.proofs.VectorReads.{Joined, joined}
 use Rattle.av1_syntax.proofs.VectorWrites.{components_refused, components_wrote, where_as}
+use Rattle.av1_syntax.proofs.Moving.{moves_then}
 use Rattle.av1_syntax.proofs.context_writer.ContextWriter.write_components.Goals as goal
 
 pub returns-in_err-write_component-clause-wrote : goal.returns-in_err-write_component-clause-wrote

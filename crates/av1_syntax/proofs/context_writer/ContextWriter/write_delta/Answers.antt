@@ -1,14 +1,14 @@
-use Rattle.std.proofs.Common.{◌≡◌, ◌∷◌, [], true, refl, arith, w8}
-use Rattle.av1_cdf.specs.Distribution.{coded_by, learnt}
+use Rattle.std.proofs.Common.{◌≡◌, ◌∷◌, [], refl, arith, w8}
 use Rattle.av1_cdf.specs.Distribution.Distribution.{Adaptive, Fixed}
 use Rattle.av1_cdf.specs.Slots.{slot_of}
-use Rattle.av1_ec.proofs.MovesLaws.{moves_then}
 use Rattle.av1_geometry.specs.Cfl.{magnitude}
 use Rattle.av1_model.proofs.ComesLaws.{wrote_err}
 use Rattle.std.proofs.lemmas.Int.{to_z-of_z}
+use Rattle.av1_syntax.specs.Calls.{coded_in, learnt_in}
 use Rattle.av1_syntax.specs.Deltas.{sign_bit}
 use Rattle.av1_syntax.proofs.DeltaWrites.{delta_begun, delta_none, delta_wrote}
 use Rattle.av1_syntax.proofs.Gathering.{two_numbers}
+use Rattle.av1_syntax.proofs.Moving.{moves_then}
 use Rattle.av1_syntax.proofs.context_writer.ContextWriter.write_delta.Goals as goal
 
 pub fixed_symbol-requires-clause-cdf : goal.fixed_symbol-requires-clause-cdf
@@ -17,7 +17,7 @@ fixed_symbol-requires-clause-cdf g c = two_numbers 16384 (omega arith)
 pub returns-in_err-write_size-clause-wrote : goal.returns-in_err-write_size-clause-wrote
 returns-in_err-write_size-clause-wrote g c =
     let e : c.size_of-size.result ≡ magnitude c.args.delta = rw (to_z-of_z w8 c.args.delta c.ranges.delta) at c.size_of-size.ensures in
-    wrote_err coded_by (learnt true) c.from_residual.result _ _ _ _ c.from_residual.ensures.0 (delta_begun (Adaptive (slot_of c.args.cdf)) c.args.delta c.size_of-size.result _ _ e c.in_err-write_size.ensures.wrote)
+    wrote_err coded_in learnt_in c.from_residual.result _ _ _ _ c.from_residual.ensures.0 (delta_begun (Adaptive (slot_of c.args.cdf)) c.args.delta c.size_of-size.result _ _ e c.in_err-write_size.ensures.wrote)
 
 pub returns-then-size-eq0-clause-wrote : goal.returns-then-size-eq0-clause-wrote
 returns-then-size-eq0-clause-wrote g c =

@@ -1,24 +1,22 @@
-use Rattle.std.proofs.Common.{◌≡◌, ◌-◌, ◌∙◌, min, true, refl, ap, arith}
-use Rattle.av1_cdf.specs.Distribution.{coded_by, learnt}
+use Rattle.std.proofs.Common.{◌-◌, ◌∙◌, refl, ap, arith}
 use Rattle.av1_cdf.specs.Distribution.Distribution.{Adaptive}
 use Rattle.av1_cdf.specs.Layout.{Slot}
 use Rattle.av1_cdf.specs.Slots.{slot_of}
-use Rattle.av1_ec.proofs.MovesLaws.{moves_then}
 use Rattle.av1_model.proofs.ComesLaws.{wrote_err}
-use Rattle.av1_syntax.specs.Calls.{stands}
+use Rattle.av1_syntax.specs.Calls.{stands, coded_in, learnt_in}
 use Rattle.av1_syntax.specs.Coefficients.{one_dimensional}
-use Rattle.av1_syntax.specs.EndOfBlock.{area_number, end_element}
+use Rattle.av1_syntax.specs.EndOfBlock.{end_element}
 use Rattle.av1_syntax.proofs.BlockWrites.{end_begun, flag_is, highest_is, eob_short, eob_long}
 use Rattle.av1_syntax.proofs.CoeffReads.{size_few, class_within, one_few}
 use Rattle.av1_syntax.proofs.CoeffSlots.{eob_extra_has}
+use Rattle.av1_syntax.proofs.Moving.{moves_then}
 use Rattle.av1_syntax.proofs.context_writer.ContextWriter.write_eob.Goals as goal
 
 pub symbol-requires-clause-s : goal.symbol-requires-clause-s
 symbol-requires-clause-s g c =
     let size = c.args.block.tx_size in
-    let d : c.min-doublings.result ≡ area_number size = c.min-doublings.ensures ∙ ap (λ a. min (a - 4) 6) c.area_log2.ensures.value in
     let k = c.get_eob_pos_token-class.ensures in
-    omega (arith, k.class, k.least, c.eob_flag_cdf-flag.ensures.len, d, class_within size c.args.eob c.requires.some c.requires.few)
+    omega (arith, k.class, k.least, c.eob_flag_cdf-flag.ensures.len, c.area_doublings-doublings.ensures, class_within c.args.self.now.eob_by_coded size c.args.eob c.requires.some c.requires.few)
 
 pub returns-in_err-symbol-clause-wrote : goal.returns-in_err-symbol-clause-wrote
 returns-in_err-symbol-clause-wrote g c =
@@ -27,8 +25,8 @@ returns-in_err-symbol-clause-wrote g c =
     let o = one_dimensional c.args.block.tx_class in
     let old = stands g.W.Known c.args.w.now c.args.self.now in
     let new = stands g.W.Known c.symbol.new.w c.symbol.new.self in
-    wrote_err coded_by (learnt true) c.from_residual.result (end_element size p o).tree c.args.eob old new c.from_residual.ensures.0
-    (end_begun size p o c.args.eob c.requires.plane (one_few c.args.block.tx_class) c.requires.some c.requires.few old new c.in_err-symbol.ensures.err)
+    wrote_err coded_in learnt_in c.from_residual.result (end_element c.args.self.now.eob_by_coded size p o).tree c.args.eob old new c.from_residual.ensures.0
+    (end_begun c.args.self.now.eob_by_coded size p o c.args.eob c.requires.plane (one_few c.args.block.tx_class) c.requires.some c.requires.few old new c.in_err-symbol.ensures.err)
 
 pub returns-then-class-lt3-clause-wrote : goal.returns-then-class-lt3-clause-wrote
 returns-then-class-lt3-clause-wrote g c =
@@ -37,9 +35,8 @@ returns-then-class-lt3-clause-wrote g c =
     let k = c.get_eob_pos_token-class.ensures in
     let old = stands g.W.Known c.args.w.now c.args.self.now in
     let new = stands g.W.Known c.symbol.new.w c.symbol.new.self in
-    let d : c.min-doublings.result ≡ area_number size = c.min-doublings.ensures ∙ ap (λ a. min (a - 4) 6) c.area_log2.ensures.value in
-    let flag = flag_is size p c.min-doublings.result c.one_dimensional-context.result (slot_of c.eob_flag_cdf-flag.result) c.eob_flag_cdf-flag.ensures.is d c.args.block.tx_class c.one_dimensional-context.ensures.value in
-    eob_short size p (one_dimensional c.args.block.tx_class) c.args.eob c.get_eob_pos_token-class.result.0 c.get_eob_pos_token-class.result.1 (Adaptive (slot_of c.eob_flag_cdf-flag.result)) c.requires.some c.requires.few flag k.class k.least k.extra k.few old new
+    let flag = flag_is c.args.self.now.eob_by_coded size p c.area_doublings-doublings.result c.one_dimensional-context.result (slot_of c.eob_flag_cdf-flag.result) c.eob_flag_cdf-flag.ensures.is c.area_doublings-doublings.ensures c.args.block.tx_class c.one_dimensional-context.ensures.value in
+    eob_short c.args.self.now.eob_by_coded size p (one_dimensional c.args.block.tx_class) c.args.eob c.get_eob_pos_token-class.result.0 c.get_eob_pos_token-class.result.1 (Adaptive (slot_of c.eob_flag_cdf-flag.result)) c.requires.some c.requires.few flag k.class k.least k.extra k.few old new
     c.if-class-lt3.true c.in_ok-symbol.ensures.ok
 
 pub write_eob_extra-requires-clause-two : goal.write_eob_extra-requires-clause-two
@@ -56,10 +53,9 @@ returns-clause-wrote g c =
     let old = stands g.W.Known c.args.w.now c.args.self.now in
     let mid = stands g.W.Known c.symbol.new.w c.symbol.new.self in
     let new = stands g.W.Known c.write_eob_extra.new.w c.write_eob_extra.new.self in
-    let d : c.min-doublings.result ≡ area_number size = c.min-doublings.ensures ∙ ap (λ a. min (a - 4) 6) c.area_log2.ensures.value in
-    let flag = flag_is size p c.min-doublings.result c.one_dimensional-context.result (slot_of c.eob_flag_cdf-flag.result) c.eob_flag_cdf-flag.ensures.is d c.args.block.tx_class c.one_dimensional-context.ensures.value in
+    let flag = flag_is c.args.self.now.eob_by_coded size p c.area_doublings-doublings.result c.one_dimensional-context.result (slot_of c.eob_flag_cdf-flag.result) c.eob_flag_cdf-flag.ensures.is c.area_doublings-doublings.ensures c.args.block.tx_class c.one_dimensional-context.ensures.value in
     let highest = highest_is size c.args.block.txs_ctx p class c.args.eob (slot_of c.eob_extra_cdf-highest.result) c.eob_extra_cdf-highest.ensures c.requires.size k.class in
-    eob_long size p (one_dimensional c.args.block.tx_class) c.args.eob class c.get_eob_pos_token-class.result.1 (Adaptive (slot_of c.eob_flag_cdf-flag.result)) c.requires.some c.requires.few flag k.class k.least k.extra k.few c.write_eob_extra.result
+    eob_long c.args.self.now.eob_by_coded size p (one_dimensional c.args.block.tx_class) c.args.eob class c.get_eob_pos_token-class.result.1 (Adaptive (slot_of c.eob_flag_cdf-flag.result)) c.requires.some c.requires.few flag k.class k.least k.extra k.few c.write_eob_extra.result
     (class - 2) (Adaptive (slot_of c.eob_extra_cdf-highest.result)) old mid new refl highest c.in_ok-symbol.ensures.ok c.write_eob_extra.ensures.wrote
 
 pub returns-clause-moves : goal.returns-clause-moves

@@ -1,6 +1,6 @@
 use Rattle.std.proofs.Common.{arith}
-use Rattle.av1_ec.proofs.MovesLaws.{moves_then}
 use Rattle.av1_syntax.proofs.VectorWrites.{offset_refused, offset_wrote}
+use Rattle.av1_syntax.proofs.Moving.{moves_then}
 use Rattle.av1_syntax.proofs.context_writer.ContextWriter.write_mv_offset.Goals as goal
 
 pub returns-in_err-write_mv_whole-clause-wrote : goal.returns-in_err-write_mv_whole-clause-wrote

@@ -1,8 +1,8 @@
 use Rattle.std.proofs.Common.{◌∙◌, ap, arith}
 use Rattle.av1_cdf.specs.Layout.{Slot}
-use Rattle.av1_ec.proofs.MovesLaws.{moves_then}
 use Rattle.av1_syntax.proofs.InterSlots.{classes_has}
 use Rattle.av1_syntax.proofs.VectorWrites.{offset_below, size_refused, size_wrote}
+use Rattle.av1_syntax.proofs.Moving.{moves_then}
 use Rattle.av1_syntax.proofs.context_writer.ContextWriter.write_mv_size.Goals as goal
 
 pub digit-requires-clause-s : goal.digit-requires-clause-s

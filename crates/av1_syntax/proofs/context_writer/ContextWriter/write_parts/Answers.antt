@@ -1,14 +1,13 @@
-use Rattle.std.proofs.Common.{◌+◌, ◌*◌, ◌/◌, ◌%◌, ◌<◌, ◌∙◌, length, take, drop, true, false, refl, ap, sym, subst, arith}
+use Rattle.std.proofs.Common.{◌+◌, ◌*◌, ◌/◌, ◌%◌, ◌<◌, ◌∙◌, length, take, drop, false, ap, sym, subst, arith}
 use Rattle.av1_blocks.specs.Grid.{Grid}
 use Rattle.av1_blocks.specs.declared.block_context.BlockContext.{BlockContext}
-use Rattle.av1_cdf.specs.Distribution.{coded_by, learnt}
-use Rattle.av1_ec.proofs.MovesLaws.{moves_then, moves_as}
 use Rattle.av1_geometry.specs.declared.block_offset.BlockOffset.{BlockOffset}
 use Rattle.av1_model.specs.Comes.{Comes, Writes, Begins}
 use Rattle.av1_model.proofs.ComesLaws.{wrote_err}
-use Rattle.av1_syntax.specs.Calls.{stands}
+use Rattle.av1_syntax.specs.Calls.{stands, coded_in, learnt_in}
 use Rattle.av1_syntax.specs.TransformSizes.{parts_of, part_element, parts_element, entered_tx, IsPlaced}
 use Rattle.av1_syntax.proofs.Splits.{columns_are, rows_are, parts_long, part_at, part_placed, parts_step, parts_begun, entered_step, parts_end, entered_end, entered_blocks, parts_few_as, on_err}
+use Rattle.av1_syntax.proofs.Moving.{moves_then, moves_as}
 use Rattle.av1_syntax.proofs.context_writer.ContextWriter.write_parts.Goals as goal
 
 pub write_part-requires-clause-few : goal.write_part-requires-clause-few
@@ -62,11 +61,11 @@ loop-k-preserved g c =
     let mid = stands g.W.Known c.loop-k.w c.loop-k.self in
     let new = stands g.W.Known c.write_part.new.w c.write_part.new.self in
     let bc = c.loop-k.self.bc in
-    let wrote = subst (λ (b : BlockOffset). Writes coded_by (learnt true) (part_element bc b size part (k % m) (k / m)).tree false mid new) place c.in_ok-write_part.ensures.wrote in
+    let wrote = subst (λ (b : BlockOffset). Writes coded_in learnt_in (part_element bc b size part (k % m) (k / m)).tree false mid new) place c.in_ok-write_part.ensures.wrote in
     let came = parts_step bo size part ps k (k % m, k / m) at before (parts_element bo size part ps c.args.self.now.bc).tree bc old mid new c.loop-k.invariant.came wrote in
     let entered = c.in_ok-write_part.ensures.entered ∙ ap (λ (b : BlockOffset). entered_tx b part bc) place in
     record {
-      came = subst (λ (x : BlockContext). Comes coded_by (learnt true) (parts_element bo size part ps c.args.self.now.bc).tree (parts_element bo size part (drop (k + 1) ps) x).tree old new) (sym entered) came;
+      came = subst (λ (x : BlockContext). Comes coded_in learnt_in (parts_element bo size part ps c.args.self.now.bc).tree (parts_element bo size part (drop (k + 1) ps) x).tree old new) (sym entered) came;
       moves = moves_then g.W.Known (13 * k) 13 (13 * (k + 1)) _ _ _ _ _ _ _ _ _ (omega arith) c.loop-k.invariant.moves c.in_ok-write_part.ensures.moves;
       entered = entered ∙ entered_step bo size part ps k (k % m, k / m) at before (parts_element bo size part ps c.args.self.now.bc).tree bc old mid new c.loop-k.invariant.came c.args.self.now.bc c.loop-k.invariant.entered;
     }
@@ -90,8 +89,8 @@ returns-in_err-write_part-clause-wrote g c =
     let mid = stands g.W.Known c.loop-k.w c.loop-k.self in
     let new = stands g.W.Known c.write_part.new.w c.write_part.new.self in
     let bc = c.loop-k.self.bc in
-    let begun = subst (λ (b : BlockOffset). Begins coded_by (learnt true) (part_element bc b size part (k % m) (k / m)).tree false mid new) place c.in_err-write_part.ensures.wrote in
-    wrote_err coded_by (learnt true) c.from_residual.result _ _ old new c.from_residual.ensures.0
+    let begun = subst (λ (b : BlockOffset). Begins coded_in learnt_in (part_element bc b size part (k % m) (k / m)).tree false mid new) place c.in_err-write_part.ensures.wrote in
+    wrote_err coded_in learnt_in c.from_residual.result _ _ old new c.from_residual.ensures.0
     (parts_begun bo size part ps k (k % m, k / m) at before (parts_element bo size part ps c.args.self.now.bc).tree bc old mid new c.loop-k.invariant.came c.requires.size c.requires.larger begun)
 
 pub returns-in_err-write_part-clause-moves : goal.returns-in_err-write_part-clause-moves
@@ -148,7 +147,7 @@ returns-clause-moves g c =
     let en = rows_are size part c.requires.size c.requires.width c.requires.height _ _ c.height_mi.ensures.value c.height_mi-2.ensures.value in
     let long = parts_long size part c.requires.size c.requires.width c.requires.height m n em en in
     let few = parts_few_as size part c.requires.size c.requires.width c.requires.height in
-    moves_as g.W.Known (13 * c.loop-k.k) 52 _ _ _ _ _ _ _ _ refl refl (omega (arith, long, few, c.loop-k.auto.k-end)) c.loop-k.invariant.moves
+    moves_as g.W.Known (13 * c.loop-k.k) 52 _ _ _ _ _ _ (omega (arith, long, few, c.loop-k.auto.k-end)) c.loop-k.invariant.moves
 
 pub returns-clause-entered : goal.returns-clause-entered
 returns-clause-entered g c =

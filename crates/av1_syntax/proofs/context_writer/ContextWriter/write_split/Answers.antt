@@ -1,15 +1,14 @@
-use Rattle.std.proofs.Common.{◌∙◌, [], ◌∷◌, true, codes, ap, subst, refl, arith}
+use Rattle.std.proofs.Common.{◌∙◌, [], ◌∷◌, true, codes, ap, subst, arith}
 use Rattle.av1_blocks.specs.declared.block_context.BlockContext.{BlockContext}
-use Rattle.av1_cdf.specs.Distribution.{coded_by, learnt}
 use Rattle.av1_cdf.specs.Layout.{slot}
-use Rattle.av1_ec.proofs.MovesLaws.{moves_then, moves_as}
 use Rattle.av1_geometry.specs.TxTables.{half_size}
 use Rattle.av1_geometry.specs.declared.tx_size.TxSize.{TxSize}
 use Rattle.av1_model.specs.Comes.{Wrote}
 use Rattle.av1_model.proofs.ComesLaws.{wrote_err}
-use Rattle.av1_syntax.specs.Calls.{stands}
+use Rattle.av1_syntax.specs.Calls.{stands, coded_in, learnt_in}
 use Rattle.av1_syntax.specs.TransformSizes.{txfm_partition_context, halved, parts_of, parts_element}
 use Rattle.av1_syntax.proofs.Splits.{whole_few, split_begun, split_wrote, split_none, some_as, entered_whole, on_err}
+use Rattle.av1_syntax.proofs.Moving.{moves_then, moves_as}
 use Rattle.av1_syntax.proofs.context_writer.ContextWriter.write_split.Goals as goal
 
 pub txfm_partition_cdf-requires : goal.txfm_partition_cdf-requires
@@ -21,11 +20,11 @@ txfm_partition_cdf-requires g c =
 pub returns-in_err-flag-clause-wrote : goal.returns-in_err-flag-clause-wrote
 returns-in_err-flag-clause-wrote g c =
     let e = c.txfm_partition_context-context.ensures.value ∙ ap (λ (t : TxSize). txfm_partition_context c.args.self.now.bc c.args.bo.0 c.args.bsize t c.args.tbx c.args.tby) c.requires.size in
-    wrote_err coded_by (learnt true) c.from_residual.result _ _ _ _ c.from_residual.ensures.0
+    wrote_err coded_in learnt_in c.from_residual.result _ _ _ _ c.from_residual.ensures.0
     (split_begun c.args.self.now.bc c.args.bo.0 c.args.bsize c.args.tbx c.args.tby c.requires.larger c.requires.width c.requires.height _ c.args.txfm_split _ _ (c.txfm_partition_cdf.ensures ∙ ap (λ k. slot (codes "txfm_partition_cdf") (k ∷ [])) e) c.in_err-flag.ensures.wrote)
 
 pub returns-in_err-flag-clause-moves : goal.returns-in_err-flag-clause-moves
-returns-in_err-flag-clause-moves g c = moves_as g.W.Known 13 65 _ _ _ _ _ _ _ _ refl refl (omega arith) c.in_err-flag.ensures.moves
+returns-in_err-flag-clause-moves g c = moves_as g.W.Known 13 65 _ _ _ _ _ _ (omega arith) c.in_err-flag.ensures.moves
 
 pub returns-in_err-flag-clause-refused : goal.returns-in_err-flag-clause-refused
 returns-in_err-flag-clause-refused g c = on_err c.from_residual.result _ c.from_residual.ensures.0 (0, omega arith, c.flag.ensures.rest)
@@ -40,7 +39,7 @@ returns-then-txfm_split-clause-wrote g c =
     let mid = stands g.W.Known c.flag.new.w c.flag.new.self in
     let new = stands g.W.Known c.write_parts.new.w c.write_parts.new.self in
     let e = c.txfm_partition_context-context.ensures.value ∙ ap (λ (t : TxSize). txfm_partition_context bc bo size t c.args.tbx c.args.tby) c.requires.size in
-    let parts = subst (λ (x : BlockContext). Wrote coded_by (learnt true) c.write_parts.result (parts_element bo size part (parts_of size part) x).tree true mid new) c.flag.ensures.rest c.write_parts.ensures.wrote in
+    let parts = subst (λ (x : BlockContext). Wrote coded_in learnt_in c.write_parts.result (parts_element bo size part (parts_of size part) x).tree true mid new) c.flag.ensures.rest c.write_parts.ensures.wrote in
     split_wrote bc bo size c.args.tbx c.args.tby c.requires.larger c.requires.width c.requires.height c.write_parts.result _ c.args.txfm_split part old mid new
     (c.txfm_partition_cdf.ensures ∙ ap (λ k. slot (codes "txfm_partition_cdf") (k ∷ [])) e) c.if-txfm_split.true (c.sub_tx_size.ensures ∙ ap half_size c.requires.size) c.in_ok-flag.ensures.wrote parts
 

@@ -1,8 +1,8 @@
 use Rattle.std.proofs.Common.{◌∙◌, [], ◌∷◌, ap, codes, arith}
 use Rattle.av1_cdf.specs.Layout.{slot}
 use Rattle.av1_cdf.proofs.Cells.{slot_within}
-use Rattle.av1_ec.proofs.MovesLaws.{moves_then}
 use Rattle.av1_syntax.proofs.InterWrites.{two_refused, two_wrote}
+use Rattle.av1_syntax.proofs.Moving.{moves_then}
 use Rattle.av1_syntax.proofs.context_writer.ContextWriter.write_two.Goals as goal
 
 pub symbol-requires-clause-s : goal.symbol-requires-clause-s

@@ -1,8 +1,8 @@
-use Rattle.std.proofs.Common.{◌∙◌, if◌then◌else◌, [], ap, refl, arith}
-use Rattle.av1_ec.proofs.MovesLaws.{moves_as}
+use Rattle.std.proofs.Common.{◌∙◌, if◌then◌else◌, [], ap, arith}
 use Rattle.av1_geometry.specs.BlockTables.{max_tx_size}
 use Rattle.av1_syntax.specs.TransformSizes.{halved, parts_of}
 use Rattle.av1_syntax.proofs.Splits.{only_whole, inter_whole, inter_part, entered_part, none_entered}
+use Rattle.av1_syntax.proofs.Moving.{moves_as}
 use Rattle.av1_syntax.proofs.context_writer.ContextWriter.write_tx_size_inter.Goals as goal
 
 pub write_part-requires-clause-size : goal.write_part-requires-clause-size
@@ -19,7 +19,7 @@ returns-then-depth-eq1-clause-wrote g c =
     inter_part c.write_part.result c.args.self.now.bc c.args.bo.0 c.args.bsize c.args.tx_size c.args.tbx c.args.tby c.args.depth c.args.txfm_split _ _ c.if-depth-eq1.true (c.requires.whole c.if-depth-eq1.true) c.write_part.ensures.wrote
 
 pub returns-then-depth-eq1-clause-moves : goal.returns-then-depth-eq1-clause-moves
-returns-then-depth-eq1-clause-moves g c = moves_as g.W.Known 13 65 _ _ _ _ _ _ _ _ refl refl (omega arith) c.write_part.ensures.moves
+returns-then-depth-eq1-clause-moves g c = moves_as g.W.Known 13 65 _ _ _ _ _ _ (omega arith) c.write_part.ensures.moves
 
 pub returns-then-depth-eq1-clause-entered : goal.returns-then-depth-eq1-clause-entered
 returns-then-depth-eq1-clause-entered g c = entered_part c.write_part.result c.args.bo.0 c.args.bsize c.args.tx_size c.args.txfm_split _ _ (c.requires.whole c.if-depth-eq1.true) c.write_part.ensures.entered
