@@ -1,4 +1,5 @@
--- The blocks of a frame, row by row, and the part of them that is a tile. Places count blocks of 4x4 luma samples.
+-- The blocks of a frame, or of a part of one that is stored alone, row by row, and the part of them that is a tile. Places count blocks of
+-- 4x4 luma samples.
 use Rattle.std.specs.Prelude.{ℕ, ◌+◌, ◌-◌, ◌*◌, ◌≤◌, ◌≡◌, ◌<◌, ◌^◌, List, Bool, ◌&&◌, ◌||◌, ◌==◌, not, min, if◌then◌else◌, length, slice_index_or}
 use Rattle.av1_geometry.specs.declared.block_offset.BlockOffset.{BlockOffset}
 use Rattle.av1_geometry.specs.declared.block_size.BlockSize.{BlockSize}
@@ -12,10 +13,17 @@ pub record Frame : Type 0 where
   pub frame_cols : ℕ
   pub frame_rows : ℕ
   pub blocks : List Block
+  -- where in the whole frame they begin, and the columns and rows of that
+  pub left : ℕ
+  pub top : ℕ
+  pub all_cols : ℕ
+  pub all_rows : ℕ
 
 pub record IsFrame (f : Frame) : Type 0 where
   pub size : length f.blocks ≡ f.frame_cols * f.frame_rows
   pub few : f.frame_cols * f.frame_rows ≤ 2 ^ 22
+  pub columns : f.left + f.frame_cols ≤ f.all_cols
+  pub rows : f.top + f.frame_rows ≤ f.all_rows
 
 -- a place of the frame
 pub record IsInFrame (f : Frame) (bo : BlockOffset) : Type 0 where
@@ -26,8 +34,21 @@ pub record IsInFrame (f : Frame) (bo : BlockOffset) : Type 0 where
 abbrev pub frame_block : Frame → ℕ → ℕ → Block
 frame_block f x y = slice_index_or f.blocks (y * f.frame_cols + x) DEFAULT
 
+-- the part of a frame of so many columns and rows that begins at a place
+abbrev pub part : BlockOffset → ℕ → ℕ → ℕ → ℕ → List Block → Frame
+part at cols rows all_cols all_rows blocks = record {
+  frame_cols = cols;
+  frame_rows = rows;
+  blocks = blocks;
+  left = at.x;
+  top = at.y;
+  all_cols = all_cols;
+  all_rows = all_rows;
+}
+
+-- the whole of it
 abbrev pub frame : ℕ → ℕ → List Block → Frame
-frame cols rows blocks = record { frame_cols = cols; frame_rows = rows; blocks = blocks }
+frame cols rows blocks = part (record { x = 0; y = 0 }) cols rows cols rows blocks
 
 abbrev pub with_blocks : List Block → Frame → Frame
 with_blocks blocks f = record f { blocks = blocks }
@@ -57,6 +78,10 @@ whole f = tile f 0 0 f.frame_cols f.frame_rows
 -- the block at a column and a row of the tile
 abbrev pub block_at : Grid → ℕ → ℕ → Block
 block_at g x y = slice_index_or g.frame.blocks ((g.y + y) * g.frame.frame_cols + (g.x + x)) DEFAULT
+
+-- the place in the whole frame of a place of the tile
+abbrev pub place_in_frame : Grid → BlockOffset → BlockOffset
+place_in_frame g bo = record { x = g.frame.left + (g.x + bo.x); y = g.frame.top + (g.y + bo.y) }
 
 -- a place of the tile
 pub record IsInside (g : Grid) (bo : BlockOffset) : Type 0 where

@@ -2,34 +2,38 @@
 ghost use Rattle.std.specs.Prelude.{◌≡◌, ◌+◌, ◌-◌, ◌*◌, ◌^◌, ◌<◌, ◌≤◌, IfOk, length, replicate, slice_range};
 ghost use Rattle.av1_blocks.specs.declared.block.TheConstants.Block.{DEFAULT};
 ghost use Rattle.av1_blocks.specs.Area.{IsAreaOf, over_area, put_area};
-ghost use Rattle.av1_blocks.specs.Grid.{frame, frame_block, whole, with_blocks, IsInFrame};
+ghost use Rattle.av1_blocks.specs.Grid.{frame, frame_block, part, whole, with_blocks, IsInFrame};
 
 use crate::area::Area;
 use crate::block::Block;
 use crate::entry::Entry;
 use crate::tile_blocks::TileBlocks;
 use crate::tile_blocks_mut::TileBlocksMut;
-use av1_geometry::{OutOfMemory, PlaneBlockOffset};
+use av1_geometry::{BlockOffset, OutOfMemory, PlaneBlockOffset};
 use std::alloc::Global;
 use std::marker::Model;
 use std::ops::Index;
 
-/// The blocks of a frame, row by row (rav1e, `context/block_unit.rs`).
+/// The blocks of a frame, or of a part of one that is stored alone, row by row (rav1e, `context/block_unit.rs`).
 #[derive(Drop)]
 pub struct FrameBlocks {
     blocks: Vec<Block>,
     cols: usize,
     rows: usize,
+    // Where in the whole frame they begin, and its columns and rows.
+    at: PlaneBlockOffset,
+    all_cols: usize,
+    all_rows: usize,
 }
 
 impl Model for FrameBlocks {
-    ghost use Rattle.av1_blocks.specs.Grid.{Frame, IsFrame, frame};
+    ghost use Rattle.av1_blocks.specs.Grid.{Frame, IsFrame, part};
 
     ghost Value = { Frame };
 
-    ghost view = { λ f. frame f.cols f.rows f.blocks.items };
+    ghost view = { λ f. part f.at.0 f.cols f.rows f.all_cols f.all_rows f.blocks.items };
 
-    ghost invariant = { λ f. IsFrame (frame f.cols f.rows f.blocks.items) };
+    ghost invariant = { λ f. IsFrame (part f.at.0 f.cols f.rows f.all_cols f.all_rows f.blocks.items) };
 }
 
 impl FrameBlocks {
@@ -38,35 +42,87 @@ impl FrameBlocks {
         requires { cols * rows ≤ 2 ^ 22 }
         ensures { IfOk result (λ f. f ≡ frame cols rows (replicate (cols * rows) DEFAULT)) }
     {
+        let corner = PlaneBlockOffset(BlockOffset { x: 0, y: 0 });
+        FrameBlocks::part(alloc, corner, cols, rows, cols, rows)
+    }
+
+    /// A grid of default blocks that is a part of a frame and is stored alone: from a place of the frame on, so many columns and rows, and
+    /// then the frame's own.
+    pub fn part(
+        alloc: Global,
+        at: PlaneBlockOffset,
+        cols: usize,
+        rows: usize,
+        all_cols: usize,
+        all_rows: usize,
+    ) -> Result<FrameBlocks, OutOfMemory>
+        requires few { cols * rows ≤ 2 ^ 22 }
+        requires columns { at.0.x + cols ≤ all_cols }
+        requires rows { at.0.y + rows ≤ all_rows }
+        ensures { IfOk result (λ f. f ≡ part at.0 cols rows all_cols all_rows (replicate (cols * rows) DEFAULT)) }
+    {
         Ok(FrameBlocks {
             blocks: vec![in alloc; Block::DEFAULT; cols * rows]?,
             cols,
             rows,
+            at,
+            all_cols,
+            all_rows,
         })
     }
 
-    /// How many columns the frame has.
+    // The place in the whole frame of the block at a column and a row.
+    pub(crate) fn place_in_frame(&self, x: usize, y: usize) -> PlaneBlockOffset
+        requires column { x < self.now.frame_cols }
+        requires row { y < self.now.frame_rows }
+        ensures x { result.0.x ≡ self.now.left + x }
+        ensures y { result.0.y ≡ self.now.top + y }
+        ensures columns { result.0.x < self.now.all_cols }
+        ensures rows { result.0.y < self.now.all_rows }
+    {
+        // counted from the frame's end, no sum can wrap
+        PlaneBlockOffset(BlockOffset {
+            x: self.all_cols - (self.all_cols - self.at.0.x - x),
+            y: self.all_rows - (self.all_rows - self.at.0.y - y),
+        })
+    }
+
+    /// How many columns the whole frame has.
+    pub fn all_cols(&self) -> usize
+        ensures { result ≡ self.now.all_cols }
+    {
+        self.all_cols
+    }
+
+    /// How many rows the whole frame has.
+    pub fn all_rows(&self) -> usize
+        ensures { result ≡ self.now.all_rows }
+    {
+        self.all_rows
+    }
+
+    /// How many columns are stored.
     pub fn cols(&self) -> usize
         ensures { result ≡ self.now.frame_cols }
     {
         self.cols
     }
 
-    /// How many rows the frame has.
+    /// How many rows are stored.
     pub fn rows(&self) -> usize
         ensures { result ≡ self.now.frame_rows }
     {
         self.rows
     }
 
-    /// The whole frame as a tile.
+    /// All blocks as a tile.
     pub fn as_tile_blocks(&self) -> TileBlocks<'_>
         ensures { result ≡ whole self.now }
     {
         TileBlocks::new(self, 0, 0, self.cols, self.rows)
     }
 
-    /// The whole frame as a tile that owns it.
+    /// All blocks as a tile that owns them.
     pub fn as_tile_blocks_mut(self) -> TileBlocksMut
         ensures { result ≡ whole self }
     {

@@ -1,12 +1,12 @@
 // A tile of the grid, to look at.
 ghost use Rattle.std.specs.Prelude.{◌≡◌, ◌+◌, ◌-◌, ◌<◌, ◌≤◌};
 ghost use Rattle.av1_blocks.specs.Area.{IsAreaOf, area_of};
-ghost use Rattle.av1_blocks.specs.Grid.{IsInside, tile, block_at};
+ghost use Rattle.av1_blocks.specs.Grid.{IsInside, tile, block_at, place_in_frame};
 
 use crate::area::Area;
 use crate::block::Block;
 use crate::frame_blocks::FrameBlocks;
-use av1_geometry::{BlockOffset, BlockSize, TileBlockOffset};
+use av1_geometry::{BlockOffset, BlockSize, PlaneBlockOffset, TileBlockOffset};
 use std::marker::Model;
 use std::ops::Index;
 
@@ -92,6 +92,30 @@ impl<'a> TileBlocks<'a> {
         ensures { result ≡ self.now.frame.frame_rows }
     {
         self.frame_rows
+    }
+
+    /// How many columns the whole frame has.
+    pub fn all_cols(&self) -> usize
+        ensures { result ≡ self.now.frame.all_cols }
+    {
+        self.frame.all_cols()
+    }
+
+    /// How many rows the whole frame has.
+    pub fn all_rows(&self) -> usize
+        ensures { result ≡ self.now.frame.all_rows }
+    {
+        self.frame.all_rows()
+    }
+
+    /// The place in the whole frame of a place of the tile.
+    pub fn place_in_frame(&self, bo: TileBlockOffset) -> PlaneBlockOffset
+        requires { IsInside self.now bo.0 }
+        ensures value { result.0 ≡ place_in_frame self.now bo.0 }
+        ensures column { result.0.x < self.now.frame.all_cols }
+        ensures row { result.0.y < self.now.frame.all_rows }
+    {
+        self.frame.place_in_frame(self.x + bo.0.x, self.y + bo.0.y)
     }
 
     /// The block at a place.

@@ -13,7 +13,7 @@ use Rattle.av1_geometry.specs.PredictionMode.{has_newmv}
 use Rattle.av1_geometry.specs.RefType.{reference_number}
 use Rattle.av1_blocks.specs.declared.block.Block.{Block}
 use Rattle.av1_blocks.specs.Block.{is_inter}
-use Rattle.av1_blocks.specs.Grid.{Grid}
+use Rattle.av1_blocks.specs.Grid.{Grid, place_in_frame}
 use Rattle.av1_mvref.specs.declared.candidate.CandidateMV.{CandidateMV}
 use Rattle.av1_mvref.specs.declared.candidate.Wanted.{Wanted}
 use Rattle.av1_mvref.specs.declared.neighbours.Matches.{Matches}
@@ -86,8 +86,8 @@ kept_near place side end v = int_max (neg_ℤ (pos (32 * (place + side) + 128)))
 
 abbrev pub clamped_mv : Grid → BlockOffset → BlockSize → MotionVector → MotionVector
 clamped_mv g bo size mv = record {
-  row = kept_near (g.y + bo.y) (height_mi size) g.frame.frame_rows mv.row;
-  col = kept_near (g.x + bo.x) (width_mi size) g.frame.frame_cols mv.col;
+  row = kept_near (place_in_frame g bo).y (height_mi size) g.frame.all_rows mv.row;
+  col = kept_near (place_in_frame g bo).x (width_mi size) g.frame.all_cols mv.col;
 }
 
 abbrev pub clamped : Grid → BlockOffset → BlockSize → CandidateMV → CandidateMV

@@ -38,12 +38,10 @@ fn clamped_mv(
     requires { IsInside blocks.now bo.0 }
     ensures { result ≡ clamped_mv blocks.now bo.0 bsize mv }
 {
-    let (rows, cols) = (blocks.frame_rows(), blocks.frame_cols());
-    let row = blocks.y() + bo.0.y;
-    let col = blocks.x() + bo.0.x;
+    let at = blocks.place_in_frame(bo).0;
     MotionVector {
-        row: kept_near(row, bsize.height_mi(), rows, mv.row),
-        col: kept_near(col, bsize.width_mi(), cols, mv.col),
+        row: kept_near(at.y, bsize.height_mi(), blocks.all_rows(), mv.row),
+        col: kept_near(at.x, bsize.width_mi(), blocks.all_cols(), mv.col),
     }
 }
 
