@@ -1,4 +1,7 @@
 pub mod Lines
 pub mod Sending
-pub mod OneWord
+pub mod FewWords
 pub mod Refusals
+pub mod Asked
+pub mod Numbers
+pub mod Sums

@@ -7,7 +7,7 @@ use Rattle.av1_tile.specs.declared.report.TileReport.{TileReport}
 use Rattle.av1_program.specs.Text.{tile_line, tile_lines}
 
 -- one more is counted from the length on
-enumerate_more : {X : Type 0} (n : ℕ) (xs : List X) (x : X) → enumerate_from n (xs ++ x ∷ []) ≡ enumerate_from n xs ++ (n + length xs, x) ∷ []
+pub enumerate_more : {X : Type 0} (n : ℕ) (xs : List X) (x : X) → enumerate_from n (xs ++ x ∷ []) ≡ enumerate_from n xs ++ (n + length xs, x) ∷ []
 enumerate_more n [] x = ap (λ m. (m, x) ∷ []) (omega arith)
 enumerate_more n (y ∷ xs) x = ap (λ rest. (n, y) ∷ rest) (enumerate_more (n + 1) xs x ∙ ap (λ m. enumerate_from (n + 1) xs ++ (m, x) ∷ []) (omega arith))
 

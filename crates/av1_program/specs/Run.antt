@@ -1,5 +1,5 @@
 -- What a run of the program reads and sends.
-use Rattle.std.specs.Prelude.{◌≡◌, ℕ, ◌+◌, ◌^◌, ◌<◌, ◌≤◌, ◌⊎◌, MatchBool, nat_lt, List, [], length, take, string_bytes, Option, Some, None, IsSome}
+use Rattle.std.specs.Prelude.{◌≡◌, ℕ, ◌+◌, ◌^◌, ◌<◌, ◌≤◌, ◌⊎◌, MatchBool, nat_lt, List, [], length, take, string_bytes, Option, Some, None}
 use Rattle.av1_bits.specs.Outside.{Rose, Still, Takes, appended}
 use Rattle.av1_geometry.specs.declared.error.Rule.{Rule}
 use Rattle.av1_tile.specs.declared.error.Place.{Place}
@@ -12,51 +12,52 @@ use Rattle.av1_unit.specs.Plain.{PlainUnit}
 use Rattle.av1_unit.specs.Report.{ReportLists}
 use Rattle.av1_program.specs.declared.status.Status.{Status}
 use Rattle.av1_program.specs.declared.status.Status.TheVariants.{Sent, Usage, SourceFault, TooLarge, BadText, BadShape, Refused, BadScript, TooLong, SinkFault, OutOfMemory}
-use Rattle.av1_program.specs.Shape.{Shape, NoReading, Unfit, Fits, shape}
+use Rattle.av1_program.specs.Shape.{Shape, NoReading, Unfit, Fits, made, shape}
 use Rattle.av1_program.specs.Status.{IsBadShape, of_unit_error}
 use Rattle.av1_program.specs.declared.words.Word.{Word}
+use Rattle.av1_program.specs.declared.words.Word.TheVariants.{Write, Raw, Make}
 use Rattle.av1_program.specs.Text.{err_text, out_text}
 use Rattle.av1_program.specs.Words.{word_of}
 
--- What is asked for is told of a unit that the input stands for: this to `out`, and this to `err`.
-pub record IsOutput (words : List (List ℕ)) (input out err : List ℕ) : Type 0 where
+-- What is asked for is told of a unit that this stands for: this to `out`, and this to `err`.
+pub record IsOutput (asked : Option Word) (shape : Shape) (out err : List ℕ) : Type 0 where
   pub word : Word
-  pub asked : word_of words ≡ Some word
+  pub is : asked ≡ Some word
   pub unit : PlainUnit
   pub via : Via
   pub bytes : List ℕ
   pub report : ReportLists
-  pub fits : shape input ≡ Fits (unit, via)
+  pub fits : shape ≡ Fits (unit, via)
   pub written : IsWritten unit bytes report
   pub out_is : out ≡ out_text word bytes report
   pub err_is : err ≡ err_text word report
 
--- the unit that the input stands for breaks this rule at this place, and nothing before it is wrong
-pub record IsRefused (place : Place) (rule : Rule) (input : List ℕ) : Type 0 where
+-- it stands for a unit that breaks this rule at this place, and nothing before it is wrong
+pub record IsRefused (place : Place) (rule : Rule) (shape : Shape) : Type 0 where
   pub unit : PlainUnit
   pub via : Via
-  pub fits : shape input ≡ Fits (unit, via)
+  pub fits : shape ≡ Fits (unit, via)
   pub refusal : first_refusal unit ≡ Some (errors.Refused place rule)
 
--- the script of the unit that the input stands for is bad at this item, and nothing before it is wrong
-pub record HasBadScript (tile item : ℕ) (input : List ℕ) : Type 0 where
+-- it stands for a unit whose script is bad at this item, and nothing before it is wrong
+pub record HasBadScript (tile item : ℕ) (shape : Shape) : Type 0 where
   pub unit : PlainUnit
   pub via : Via
-  pub fits : shape input ≡ Fits (unit, via)
+  pub fits : shape ≡ Fits (unit, via)
   pub refusal : first_refusal unit ≡ Some (errors.BadScript tile item)
 
--- the unit that the input stands for has a step here that would begin after too many bits, and nothing before it is wrong
-pub record IsTooLong (place : Place) (input : List ℕ) : Type 0 where
+-- it stands for a unit that has a step here that would begin after too many bits, and nothing before it is wrong
+pub record IsTooLong (place : Place) (shape : Shape) : Type 0 where
   pub unit : PlainUnit
   pub via : Via
-  pub fits : shape input ≡ Fits (unit, via)
+  pub fits : shape ≡ Fits (unit, via)
   pub refusal : first_refusal unit ≡ Some (errors.TooLong place)
 
--- the unit that the input stands for is valid
-pub record IsValid (input : List ℕ) : Type 0 where
+-- it stands for a valid unit
+pub record IsValid (shape : Shape) : Type 0 where
   pub unit : PlainUnit
   pub via : Via
-  pub fits : shape input ≡ Fits (unit, via)
+  pub fits : shape ≡ Fits (unit, via)
   pub valid : first_refusal unit ≡ None
 
 -- The source was read to its end, and of the input P holds: of all bytes that were left, where the source tells them.
@@ -65,6 +66,20 @@ pub record Reads (before after : Option (List ℕ)) (P : List ℕ → Type 0) : 
   pub all : (bytes : List ℕ) → before ≡ Some bytes → (input ≡ bytes) × (after ≡ Some [])
   pub allowed : length input ≤ 2 ^ 26
   pub is : P input
+
+-- P holds of what is asked for: of what the whole input stands for, or of what a number makes, where nothing is read
+abbrev pub Concerns : Option Word → Option (List ℕ) → Option (List ℕ) → (Shape → Type 0) → Type 0
+Concerns None before after P = ⊥
+Concerns (Some Write) before after P = Reads before after (λ input. P (shape input))
+Concerns (Some Raw) before after P = Reads before after (λ input. P (shape input))
+Concerns (Some (Make n)) before after P = (after ≡ before) × P (made n)
+
+-- an input is asked for
+abbrev pub AsksForInput : Option Word → Type 0
+AsksForInput None = ⊥
+AsksForInput (Some Write) = Unit {0}
+AsksForInput (Some Raw) = Unit {0}
+AsksForInput (Some (Make n)) = ⊥
 
 -- more bytes were taken than an input may have: at most a last piece more
 abbrev pub TakesMore : Option (List ℕ) → Option (List ℕ) → Type 0
@@ -78,50 +93,50 @@ TakesAtMost before after = (k : ℕ) × (k ≤ 2 ^ 26) × Takes k before after
 abbrev pub IsSentFront : Option (List ℕ) → Option (List ℕ) → List ℕ → Type 0
 IsSentFront before after text = (k : ℕ) × (k ≤ length text) × (after ≡ appended before (take k text))
 
--- `out` received what is asked for of this input, and so did `err`, or a front of it where its count of faults rose
-pub record Receives (words : List (List ℕ)) (input : List ℕ) (out_before out_after err_before err_after : Option (List ℕ)) (err_still : Type 0) : Type 0 where
+-- `out` received what is asked for of this, and so did `err`, or a front of it where its count of faults rose
+pub record Receives (asked : Option Word) (out_before out_after err_before err_after : Option (List ℕ)) (err_still : Type 0) (shape : Shape) : Type 0 where
   pub out : List ℕ
   pub err : List ℕ
-  pub is : IsOutput words input out err
+  pub is : IsOutput asked shape out err
   pub out_received : out_after ≡ appended out_before out
   pub err_received : err_still → err_after ≡ appended err_before err
   pub err_front : IsSentFront err_before err_after err
 
 -- `out` received a front of it
-pub record ReceivesFront (words : List (List ℕ)) (before after : Option (List ℕ)) (input : List ℕ) : Type 0 where
+pub record ReceivesFront (asked : Option Word) (before after : Option (List ℕ)) (shape : Shape) : Type 0 where
   pub out : List ℕ
   pub err : List ℕ
-  pub is : IsOutput words input out err
+  pub is : IsOutput asked shape out err
   pub received : IsSentFront before after out
 
--- A run was given a word that it knows, and a source that tells this input and didn't fail.
+-- A run was asked for an input, and given a source that tells this input and didn't fail.
 pub record IsGiven (words : List (List ℕ)) (input : List ℕ) (before : Option (List ℕ)) (old new : ℕ) : Type 0 where
-  pub word : IsSome (word_of words)
+  pub word : AsksForInput (word_of words)
   pub told : before ≡ Some input
   pub no_fault : Still old new
 
--- why an input has no text, by the status
-abbrev pub IsRefusal : Status → List ℕ → Type 0
-IsRefusal BadText input = shape input ≡ NoReading
-IsRefusal (BadShape path) input = shape input ≡ Unfit (string_bytes path)
-IsRefusal (Refused place rule) input = IsRefused place rule input
-IsRefusal (BadScript tile item) input = HasBadScript tile item input
-IsRefusal (TooLong place) input = IsTooLong place input
-IsRefusal OutOfMemory input = Unit {0}
-IsRefusal _ input = ⊥
+-- why there is no text of what stands for this, by the status
+abbrev pub IsRefusal : Status → Shape → Type 0
+IsRefusal BadText shape = shape ≡ NoReading
+IsRefusal (BadShape path) shape = shape ≡ Unfit (string_bytes path)
+IsRefusal (Refused place rule) shape = IsRefused place rule shape
+IsRefusal (BadScript tile item) shape = HasBadScript tile item shape
+IsRefusal (TooLong place) shape = IsTooLong place shape
+IsRefusal OutOfMemory shape = Unit {0}
+IsRefusal _ shape = ⊥
 
--- why a run makes no text, by its status: of the words, what the source had left before and after, and its count of faults
-abbrev pub Explains : Status → List (List ℕ) → Option (List ℕ) → Option (List ℕ) → ℕ → ℕ → Type 0
-Explains Usage words before after old new = word_of words ≡ None
-Explains SourceFault words before after old new = Rose old new
-Explains TooLarge words before after old new = TakesMore before after
-Explains BadText words before after old new = Reads before after (IsRefusal BadText)
-Explains (BadShape path) words before after old new = Reads before after (IsRefusal (BadShape path))
-Explains (Refused place rule) words before after old new = Reads before after (IsRefusal (Refused place rule))
-Explains (BadScript tile item) words before after old new = Reads before after (IsRefusal (BadScript tile item))
-Explains (TooLong place) words before after old new = Reads before after (IsRefusal (TooLong place))
-Explains OutOfMemory words before after old new = Unit {0}
-Explains _ words before after old new = ⊥
+-- why a run makes no text, by its status: of the word, what the source had left before and after, and its count of faults
+abbrev pub Explains : Status → Option Word → Option (List ℕ) → Option (List ℕ) → ℕ → ℕ → Type 0
+Explains Usage asked before after old new = asked ≡ None
+Explains SourceFault asked before after old new = AsksForInput asked × Rose old new
+Explains TooLarge asked before after old new = AsksForInput asked × TakesMore before after
+Explains BadText asked before after old new = Concerns asked before after (IsRefusal BadText)
+Explains (BadShape path) asked before after old new = Concerns asked before after (IsRefusal (BadShape path))
+Explains (Refused place rule) asked before after old new = Concerns asked before after (IsRefusal (Refused place rule))
+Explains (BadScript tile item) asked before after old new = Concerns asked before after (IsRefusal (BadScript tile item))
+Explains (TooLong place) asked before after old new = Concerns asked before after (IsRefusal (TooLong place))
+Explains OutOfMemory asked before after old new = Unit {0}
+Explains _ asked before after old new = ⊥
 
 -- the status of a unit by what is wrong with it: where nothing is, all is sent or the sink fails
 abbrev pub IsVerdict : Option UnitError → Status → Type 0

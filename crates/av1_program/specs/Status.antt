@@ -52,7 +52,7 @@ bad_shape_line path = codes "bad shape at " ++ path ++ codes "\n"
 -- what `err` is told; of a unit that was sent, nothing
 abbrev pub line_of : Status → List ℕ
 line_of Sent = []
-line_of Usage = codes "usage: av1_write write | raw\n"
+line_of Usage = codes "usage: av1_write write | raw | make N\n"
 line_of SourceFault = codes "source fault\n"
 line_of TooLarge = codes "input too large\n"
 line_of BadText = codes "bad text\n"

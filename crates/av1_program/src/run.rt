@@ -1,21 +1,23 @@
 // One run of the program.
-ghost use Rattle.std.specs.Prelude.{◌≡◌, ◌^◌, ◌≤◌, ◌↔◌, ◌⊎◌, ℕ, List, [], IfOk, IfErr, IsSome, None, Some, length, map, string_bytes};
+ghost use Rattle.std.specs.Prelude.{◌≡◌, ◌^◌, ◌<◌, ◌≤◌, ◌↔◌, ◌⊎◌, ℕ, List, [], IfOk, IfErr, IsSome, None, Some, length, map, string_bytes};
 ghost use Rattle.av1_bits.specs.Outside.{Rose, Still, appended};
-ghost use Rattle.av1_program.specs.Run.{Explains, HasBadScript, IsTooLong, IsAnswer, IsGiven, IsRefusal, IsRefused, IsOutput, IsSentFront, IsValid, Reads, Receives, ReceivesFront, TakesAtMost, TakesMore};
-ghost use Rattle.av1_program.specs.Shape.{NoReading, Unfit, shape};
+ghost use Rattle.av1_program.specs.Run.{AsksForInput, Concerns, Explains, HasBadScript, IsTooLong, IsAnswer, IsAnswerTo, IsGiven, IsRefusal, IsRefused, IsOutput};
+ghost use Rattle.av1_program.specs.Run.{IsSentFront, IsValid, Reads, Receives, ReceivesFront, TakesAtMost, TakesMore};
+ghost use Rattle.av1_program.specs.Shape.{Fits, NoReading, Unfit, made, shape};
 ghost use Rattle.av1_program.specs.Status.{HasFixedLine, IsBadShape, line_of};
 ghost use Rattle.av1_program.specs.Text.{err_text, out_text};
 ghost use Rattle.av1_program.specs.Words.{word_of};
+ghost use Rattle.av1_unit.specs.Plain.{plain};
 ghost use Rattle.av1_tile.specs.declared.error.Place.{Place};
 ghost use Rattle.av1_geometry.specs.declared.error.Rule.{Rule};
 
-use crate::shape::read_unit;
+use crate::shape::{made_unit, read_unit};
 use crate::status::Status;
-use crate::text::{report_text, unit_text};
+use crate::text::{report_text, summary, unit_text};
 use crate::words::{Word, word_of};
 use av1_bits::{Sink, Source, read_at_most, send_all};
 use av1_geometry::OutOfMemory;
-use av1_unit::{Report, unit_bytes};
+use av1_unit::{Report, Unit, Via, unit_bytes};
 use std::alloc::Global;
 
 /// The most bytes of an input.
@@ -46,31 +48,66 @@ fn output_of(
             out: bytes,
             err: report_text(alloc, report)?,
         }),
+        Word::Make(n) => Ok(Output {
+            out: summary(alloc, n, &bytes, report)?.into_bytes(),
+            err: String::new(alloc),
+        }),
     }
 }
 
-fn output_of_input(alloc: Global, word: Word, input: &[u8]) -> Result<Output, Status>
-    ensures output { IfOk result (λ o. (words : _) → word_of words ≡ Some word → IsOutput words input.now o.out.items (string_bytes o.err)) }
-    ensures refused { IfErr result (λ status. IsRefusal status input.now) }
+fn output_of_unit(alloc: Global, word: Word, unit: &Unit, via: Via) -> Result<Output, Status>
+    ensures output { IfOk result (λ o. IsOutput (Some word) (Fits (plain unit.now, via)) o.out.items (string_bytes o.err)) }
+    ensures refused { IfErr result (λ status. IsRefusal status (Fits (plain unit.now, via))) }
 {
-    let (unit, via) = read_unit(alloc, input)?;
-    let (bytes, report) = unit_bytes(alloc, &unit, via)?;
+    let (bytes, report) = unit_bytes(alloc, unit, via)?;
     Ok(output_of(alloc, word, bytes, &report)?)
 }
 
-fn make<R: Source>(alloc: Global, words: &[String], source: &mut R) -> Result<Output, Status>
-    ensures output { IfOk result (λ o. Reads (R.left source.old) (R.left source.new) (λ input. IsOutput (map string_bytes words.now) input o.out.items (string_bytes o.err))) }
-    ensures why { IfErr result (λ status. Explains status (map string_bytes words.now) (R.left source.old) (R.left source.new) (R.faults source.old) (R.faults source.new)) }
-    ensures word { (result ≡ Err Status.Usage) ⊎ IsSome (word_of (map string_bytes words.now)) }
-    ensures unread { result ≡ Err Status.Usage → source.new ≡ source.old }
+fn output_of_input(alloc: Global, word: Word, input: &[u8]) -> Result<Output, Status>
+    ensures output { IfOk result (λ o. IsOutput (Some word) (shape input.now) o.out.items (string_bytes o.err)) }
+    ensures refused { IfErr result (λ status. IsRefusal status (shape input.now)) }
+{
+    let (unit, via) = read_unit(alloc, input)?;
+    output_of_unit(alloc, word, &unit, via)
+}
+
+fn output_of_number(alloc: Global, n: u32) -> Result<Output, Status>
+    requires { n < 1000000 }
+    ensures output { IfOk result (λ o. IsOutput (Some (Word.Make n)) (made n) o.out.items (string_bytes o.err)) }
+    ensures refused { IfErr result (λ status. IsRefusal status (made n)) }
+{
+    let unit = made_unit(alloc, n)?;
+    output_of_unit(alloc, Word::Make(n), &unit, Via::Direct)
+}
+
+fn output_of_source<R: Source>(alloc: Global, word: Word, source: &mut R) -> Result<Output, Status>
+    requires { AsksForInput (Some word) }
+    ensures output { IfOk result (λ o. Concerns (Some word) (R.left source.old) (R.left source.new)
+        (λ s. IsOutput (Some word) s o.out.items (string_bytes o.err))) }
+    ensures why { IfErr result (λ status. Explains status (Some word) (R.left source.old) (R.left source.new) (R.faults source.old) (R.faults source.new)) }
     ensures taken { (result ≡ Err Status.TooLarge) ⊎ TakesAtMost (R.left source.old) (R.left source.new) }
     ensures count { (result ≡ Err Status.SourceFault) ⊎ (R.faults source.new ≡ R.faults source.old) }
 {
-    let Some(word) = word_of(words) else {
-        return Err(Status::Usage);
-    };
     let input = read_at_most(alloc, source, MOST_INPUT)?;
     output_of_input(alloc, word, &input)
+}
+
+fn make<R: Source>(alloc: Global, words: &[String], source: &mut R) -> Result<Output, Status>
+    ensures output { IfOk result (λ o. Concerns (word_of (map string_bytes words.now)) (R.left source.old) (R.left source.new)
+        (λ s. IsOutput (word_of (map string_bytes words.now)) s o.out.items (string_bytes o.err))) }
+    ensures why { IfErr result (λ status. Explains status (word_of (map string_bytes words.now)) (R.left source.old)
+        (R.left source.new) (R.faults source.old) (R.faults source.new)) }
+    ensures word { (result ≡ Err Status.Usage) ⊎ IsSome (word_of (map string_bytes words.now)) }
+    ensures unread { AsksForInput (word_of (map string_bytes words.now)) ⊎ (source.new ≡ source.old) }
+    ensures taken { (result ≡ Err Status.TooLarge) ⊎ TakesAtMost (R.left source.old) (R.left source.new) }
+    ensures count { (result ≡ Err Status.SourceFault) ⊎ (R.faults source.new ≡ R.faults source.old) }
+{
+    match word_of(words) {
+        None => Err(Status::Usage),
+        Some(Word::Write) => output_of_source(alloc, Word::Write, source),
+        Some(Word::Raw) => output_of_source(alloc, Word::Raw, source),
+        Some(Word::Make(n)) => output_of_number(alloc, n),
+    }
 }
 
 /// Sends the line of a status to `err`, and answers the status. Where the line has a path or a place and there is no memory for
@@ -93,7 +130,8 @@ fn send_output<S: Sink, E: Sink>(alloc: Global, output: &Output, out: &mut S, er
     ensures sink_fault { result ≡ Status.SinkFault → Rose (S.faults out.old) (S.faults out.new) }
     ensures sent_front { IsSentFront (S.sent out.old) (S.sent out.new) output.now.out.items }
     ensures silent { string_bytes output.now.err ≡ [] → result ≡ Status.Sent → err.new ≡ err.old }
-    ensures report { result ≡ Status.Sent → Still (E.faults err.old) (E.faults err.new) → E.sent err.new ≡ appended (E.sent err.old) (string_bytes output.now.err) }
+    ensures report { result ≡ Status.Sent → Still (E.faults err.old) (E.faults err.new) →
+        E.sent err.new ≡ appended (E.sent err.old) (string_bytes output.now.err) }
     ensures report_front { result ≡ Status.Sent → IsSentFront (E.sent err.old) (E.sent err.new) (string_bytes output.now.err) }
     ensures told { (result ≡ Status.Sent) ⊎ (Still (E.faults err.old) (E.faults err.new) → E.sent err.new ≡ appended (E.sent err.old) (line_of result)) }
     ensures front { (result ≡ Status.Sent) ⊎ IsSentFront (E.sent err.old) (E.sent err.new) (line_of result) }
@@ -118,9 +156,9 @@ fn send_report<E: Sink>(text: &str, err: &mut E)
     }
 }
 
-/// Reads a unit as JSON from `source`. For `write` it sends the unit's bytes and its report as text to `out`; for `raw` the bytes to
-/// `out`, and then the report's lines to `err`. A status other than `Sent` sends its line to `err`, and a fault of `err` changes no
-/// status.
+/// For `write` and `raw` it reads a unit as JSON from `source`. For `write` it sends the unit's bytes and its report as text to `out`; for
+/// `raw` the bytes to `out`, and then the report's lines to `err`. For `make` and a number it reads nothing, and sends a summary of the
+/// unit that the number makes to `out`. A status other than `Sent` sends its line to `err`, and a fault of `err` changes no status.
 ///
 /// Everything that is sent is made in memory first. Want of memory has its own status, and no other cause
 /// is told for it.
@@ -131,32 +169,46 @@ pub fn run<R: Source, S: Sink, E: Sink>(
     out: &mut S,
     err: &mut E,
 ) -> Status
-    // All was sent: what was asked for, of the unit that the whole input stands for.
-    ensures sent { result ≡ Status.Sent → Reads (R.left source.old) (R.left source.new) (λ input. Receives (map string_bytes words.now) input
-        (S.sent out.old) (S.sent out.new) (E.sent err.old) (E.sent err.new) (Still (E.faults err.old) (E.faults err.new))) }
-    ensures silent { word_of (map string_bytes words.now) ≡ Some Word.Write → result ≡ Status.Sent → err.new ≡ err.old }
+    // All was sent: what was asked for, of the unit that the whole input stands for, or that the number makes.
+    ensures sent { result ≡ Status.Sent → Concerns (word_of (map string_bytes words.now)) (R.left source.old) (R.left source.new)
+        (Receives (word_of (map string_bytes words.now)) (S.sent out.old) (S.sent out.new) (E.sent err.old) (E.sent err.new)
+        (Still (E.faults err.old) (E.faults err.new))) }
+    ensures silent { result ≡ Status.Sent → (word_of (map string_bytes words.now) ≡ Some Word.Raw) ⊎ (err.new ≡ err.old) }
 
     // Each other status has its cause.
     ensures usage { (result ≡ Status.Usage) ↔ (word_of (map string_bytes words.now) ≡ None) }
-    ensures unread { result ≡ Status.Usage → source.new ≡ source.old }
+    ensures unread { AsksForInput (word_of (map string_bytes words.now)) ⊎ (source.new ≡ source.old) }
     ensures source_fault { result ≡ Status.SourceFault → Rose (R.faults source.old) (R.faults source.new) }
     ensures source_count { (result ≡ Status.SourceFault) ⊎ (R.faults source.new ≡ R.faults source.old) }
     ensures too_large { result ≡ Status.TooLarge → TakesMore (R.left source.old) (R.left source.new) }
     ensures taken { (result ≡ Status.TooLarge) ⊎ TakesAtMost (R.left source.old) (R.left source.new) }
-    ensures bad_text { result ≡ Status.BadText → Reads (R.left source.old) (R.left source.new) (λ input. shape input ≡ NoReading) }
-    ensures bad_shape { (path : List ℕ) → IsBadShape path result → Reads (R.left source.old) (R.left source.new) (λ input. shape input ≡ Unfit path) }
-    ensures refused { (place : Place) (rule : Rule) → result ≡ Status.Refused place rule → Reads (R.left source.old) (R.left source.new) (IsRefused place rule) }
-    ensures bad_script { (tile item : ℕ) → result ≡ Status.BadScript tile item → Reads (R.left source.old) (R.left source.new) (HasBadScript tile item) }
-    ensures too_long { (place : Place) → result ≡ Status.TooLong place → Reads (R.left source.old) (R.left source.new) (IsTooLong place) }
+    ensures bad_text { result ≡ Status.BadText → Concerns (word_of (map string_bytes words.now)) (R.left source.old) (R.left source.new) (λ s. s ≡ NoReading) }
+    ensures bad_shape { (path : List ℕ) → IsBadShape path result →
+        Concerns (word_of (map string_bytes words.now)) (R.left source.old) (R.left source.new) (λ s. s ≡ Unfit path) }
+    ensures refused { (place : Place) (rule : Rule) → result ≡ Status.Refused place rule →
+        Concerns (word_of (map string_bytes words.now)) (R.left source.old) (R.left source.new) (IsRefused place rule) }
+    ensures bad_script { (tile item : ℕ) → result ≡ Status.BadScript tile item →
+        Concerns (word_of (map string_bytes words.now)) (R.left source.old) (R.left source.new) (HasBadScript tile item) }
+    ensures too_long { (place : Place) → result ≡ Status.TooLong place →
+        Concerns (word_of (map string_bytes words.now)) (R.left source.old) (R.left source.new) (IsTooLong place) }
     ensures sink_fault { result ≡ Status.SinkFault → Rose (S.faults out.old) (S.faults out.new) }
     ensures sink_count { (result ≡ Status.SinkFault) ⊎ (S.faults out.new ≡ S.faults out.old) }
 
-    // Where the source tells its input and doesn't fail, the status is that of the input, but for want of memory.
-    ensures answer { (input : List ℕ) → IsGiven (map string_bytes words.now) input (R.left source.old) (R.faults source.old) (R.faults source.new) → (result ≡ Status.OutOfMemory) ⊎ IsAnswer input result }
-    ensures complete { (input : List ℕ) → IsGiven (map string_bytes words.now) input (R.left source.old) (R.faults source.old) (R.faults source.new) → length input ≤ 2 ^ 26 → IsValid input → Still (S.faults out.old) (S.faults out.new) → (result ≡ Status.OutOfMemory) ⊎ (result ≡ Status.Sent) }
+    // Where the source tells its input and doesn't fail, the status is that of the input, but for want of memory. That of a number is always its unit's.
+    ensures answer { (input : List ℕ) →
+        IsGiven (map string_bytes words.now) input (R.left source.old) (R.faults source.old) (R.faults source.new) →
+        (result ≡ Status.OutOfMemory) ⊎ IsAnswer input result }
+    ensures complete { (input : List ℕ) →
+        IsGiven (map string_bytes words.now) input (R.left source.old) (R.faults source.old) (R.faults source.new) → length input ≤ 2 ^ 26 →
+        IsValid (shape input) → Still (S.faults out.old) (S.faults out.new) → (result ≡ Status.OutOfMemory) ⊎ (result ≡ Status.Sent) }
+    ensures answer_made { (n : ℕ) → word_of (map string_bytes words.now) ≡ Some (Word.Make n) → (result ≡ Status.OutOfMemory) ⊎ IsAnswerTo (made n) result }
+    ensures complete_made { (n : ℕ) → word_of (map string_bytes words.now) ≡ Some (Word.Make n) → IsValid (made n) →
+        Still (S.faults out.old) (S.faults out.new) →
+        (result ≡ Status.OutOfMemory) ⊎ (result ≡ Status.Sent) }
 
     // What was sent: nothing to `out` but for a unit, and to `err` the line of a status that is another.
-    ensures sink_front { result ≡ Status.SinkFault → Reads (R.left source.old) (R.left source.new) (ReceivesFront (map string_bytes words.now) (S.sent out.old) (S.sent out.new)) }
+    ensures sink_front { result ≡ Status.SinkFault → Concerns (word_of (map string_bytes words.now)) (R.left source.old) (R.left source.new)
+        (ReceivesFront (word_of (map string_bytes words.now)) (S.sent out.old) (S.sent out.new)) }
     ensures unsent { (result ≡ Status.Sent) ⊎ (result ≡ Status.SinkFault) ⊎ (out.new ≡ out.old) }
     ensures told { (result ≡ Status.Sent) ⊎ (Still (E.faults err.old) (E.faults err.new) → E.sent err.new ≡ appended (E.sent err.old) (line_of result)) }
     ensures front { (result ≡ Status.Sent) ⊎ IsSentFront (E.sent err.old) (E.sent err.new) (line_of result) }

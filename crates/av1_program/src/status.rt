@@ -79,7 +79,7 @@ impl Status {
     {
         let line = match self {
             Status::Sent => "",
-            Status::Usage => "usage: av1_write write | raw\n",
+            Status::Usage => "usage: av1_write write | raw | make N\n",
             Status::SourceFault => "source fault\n",
             Status::TooLarge => "input too large\n",
             Status::BadText => "bad text\n",
