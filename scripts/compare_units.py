@@ -5,15 +5,18 @@
 
 PROGRAM is a built av1_write. ORACLE is a program with `gen SEED KIND`, which prints a random unit that breaks no rule, and
 `write`, which answers a unit as PROGRAM does: rav1e's own calls behind a harness, for example. Steps and members that
-docs/unit.schema.json does not name are left out of the units first. Of each KIND (key, intra, inter, switch) COUNT units are
-tried, 100 where it is not said, from the seed FIRST on. A unit that PROGRAM refuses, since a step that it wants was left out,
-is counted by its rule and not compared. Ends with status 1 where an answer differs; the unit is left in differs.json.
+docs/unit.schema.json does not name are left out of the units first. Of each KIND (key, intra, inter, switch), and of
+scripts/random_inter.py's own, COUNT units are tried, 100 where it is not said, from the seed FIRST on. A unit that PROGRAM refuses,
+since a step that it wants was left out, is counted by its rule and not compared. Ends with status 1 where an answer differs; the
+unit is left in differs.json.
 """
 import collections
 import json
 import pathlib
 import subprocess
 import sys
+
+import random_inter
 
 SCHEMA = pathlib.Path(__file__).resolve().parent.parent / "docs/unit.schema.json"
 
@@ -42,6 +45,15 @@ def answer(program, text):
     return run.returncode, run.stdout.decode(), run.stderr.decode()
 
 
+def made(oracle, kind, seed):
+    if kind == "own":
+        return random_inter.Frame(seed).unit()
+    run = subprocess.run([oracle, "gen", str(seed), kind], capture_output=True)
+    if run.returncode != 0:
+        sys.exit(f"compare_units: {oracle} gen {seed} {kind} ends with status {run.returncode}")
+    return json.loads(run.stdout)
+
+
 def main():
     if len(sys.argv) not in (3, 4, 5):
         sys.exit(__doc__)
@@ -52,12 +64,9 @@ def main():
     ops = kinds(schema)
     members = set(schema["properties"])
     same, steps, refused = 0, collections.Counter(), collections.Counter()
-    for kind in ("key", "intra", "inter", "switch"):
+    for kind in ("key", "intra", "inter", "switch", "own"):
         for seed in range(first, first + count):
-            made = subprocess.run([oracle, "gen", str(seed), kind], capture_output=True)
-            if made.returncode != 0:
-                sys.exit(f"compare_units: {oracle} gen {seed} {kind} ends with status {made.returncode}")
-            unit = {name: value for name, value in json.loads(made.stdout).items() if name in members}
+            unit = {name: value for name, value in made(oracle, kind, seed).items() if name in members}
             unit["tiles"] = [[item for item in tile if item["op"] in ops] for tile in unit["tiles"]]
             text = json.dumps(unit)
             got = answer(program, text)

@@ -26,6 +26,11 @@ class Frame:
         self.seq, self.frame = {}, {}
         self.metadata = []
         self.headers()
+        # drawn apart, so that all else of a frame is as it was before there were these
+        apart = random.Random(f"switches of {seed}")
+        self.eob_by_coded = not beyond and apart.randrange(3) == 0
+        if not beyond and apart.randrange(4) == 0:
+            self.frame.update(disable_cdf_update=True, disable_frame_end_update_cdf=True)
 
     def once(self, n):
         return self.r.randrange(n) == 0
@@ -217,8 +222,8 @@ class Frame:
 
     def unit(self):
         return {
-            "seq": self.seq, "frame": self.frame, "metadata": self.metadata, "via": self.r.choice(["direct", "recorded"]),
-            "tables": k.tables(), "scans": k.scans(),
+            "seq": self.seq, "frame": self.frame, "metadata": self.metadata, "eob_by_coded": self.eob_by_coded,
+            "via": self.r.choice(["direct", "recorded"]), "tables": k.tables(), "scans": k.scans(),
             "tiles": [self.script(i) for i in range(self.tiles[0] * self.tiles[1])]}
 
 
@@ -391,8 +396,8 @@ class Tile:
     def residual(self, x, y, block, transform, uv):
         reduced = self.f.frame["use_reduced_tx_set"]
         for px, py in self.places(x, y, k.BLOCKS[block], transform, 0, 0):
-            # of 16x64 and 64x16 the class of the end is not AV1's
-            last = set(k.TRANSFORMS[transform]) == {16, 64} and self.f.beyond != "end_16x64"
+            # of 16x64 and 64x16 the class of the end is AV1's only where it goes by the coded size
+            last = set(k.TRANSFORMS[transform]) == {16, 64} and self.f.beyond != "end_16x64" and not self.f.eob_by_coded
             levels = [] if last else self.levels(transform)
             kind = self.r.choice(k.types(transform, reduced)) if levels else 0
             self.put("Coeffs", plane=0, x=px, y=py, tx_type=kind, a=levels)

@@ -68,7 +68,7 @@ def frame_fields(unit, longest):
     seq, frame = unit["seq"], unit["frame"]
     mono = seq["chroma_sampling"] == k.CS400
     want = {
-        "show_existing_frame": 0, "frame_type": 0, "show_frame": 1, "disable_cdf_update": 0,
+        "show_existing_frame": 0, "frame_type": 0, "show_frame": 1, "disable_cdf_update": frame.get("disable_cdf_update", False),
         "allow_screen_content_tools": frame["allow_screen_content_tools"], "force_integer_mv": 1,
         "frame_size_override_flag": frame.get("frame_size_override_flag", False), "order_hint": frame.get("order_hint"),
         "frame_width_minus_1": frame["width"] - 1, "frame_height_minus_1": frame["height"] - 1,

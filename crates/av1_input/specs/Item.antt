@@ -5,12 +5,16 @@ use Rattle.serde_json.specs.Data.{Members as Left}
 use Rattle.av1_geometry.specs.BlockSize.{size_of}
 use Rattle.av1_geometry.specs.declared.block_size.BlockSize.{BlockSize}
 use Rattle.av1_geometry.specs.declared.block_size.BlockSize.TheVariants.{BLOCK_4X4}
+use Rattle.av1_geometry.specs.declared.motion_vector.MotionVector.{MotionVector}
 use Rattle.av1_geometry.specs.declared.partition_type.PartitionType.{PartitionType}
 use Rattle.av1_geometry.specs.declared.partition_type.PartitionType.TheVariants.{PARTITION_NONE}
 use Rattle.av1_geometry.specs.PartitionType.{partition_of}
 use Rattle.av1_geometry.specs.declared.prediction_mode.PredictionMode.{PredictionMode}
 use Rattle.av1_geometry.specs.declared.prediction_mode.PredictionMode.TheVariants.{DC_PRED}
 use Rattle.av1_geometry.specs.PredictionMode.{prediction_mode_of}
+use Rattle.av1_geometry.specs.RefType.{reference_of}
+use Rattle.av1_geometry.specs.declared.ref_type.RefType.{RefType}
+use Rattle.av1_geometry.specs.declared.ref_type.RefType.TheVariants.{INTRA_FRAME}
 use Rattle.av1_geometry.specs.TxSize.{tx_size_of}
 use Rattle.av1_geometry.specs.declared.tx_size.TxSize.{TxSize}
 use Rattle.av1_geometry.specs.declared.tx_size.TxSize.TheVariants.{TX_4X4}
@@ -22,7 +26,7 @@ use Rattle.av1_tile.specs.declared.unit.Item.{Item}
 use Rattle.av1_tile.specs.declared.unit.Item.TheVariants.{Step, Begin, Keep, Abandon}
 use Rattle.av1_tile.specs.declared.unit.TileStep.TheVariants.{RowStart, Block, Partition, Skip, Segment, Cdef, DeltaLf, IntraModeKf, IntraMode}
 use Rattle.av1_tile.specs.declared.unit.TileStep.TheVariants.{UvMode, AngleDelta, CflAlphas, FilterIntra, Palette, TxNote, TxIntra, TxInter, Coeffs}
-use Rattle.av1_tile.specs.declared.unit.TileStep.TheVariants.{Lrf}
+use Rattle.av1_tile.specs.declared.unit.TileStep.TheVariants.{IsInter, RefFrames, MvRefs, InterMode, CompoundMode, Drl, Mv, Lrf}
 use Rattle.av1_input.specs.Filter.{filter}
 use Rattle.av1_input.specs.Fitted.{Fitted, Unfit, name_step}
 use Rattle.av1_input.specs.Kinds.{Kind, choice, exactly, list, signed, text, truth, whole}
@@ -34,13 +38,16 @@ pub record Asked (A : Type 0) : Type 0 where
   pub y : ℕ
   pub size : BlockSize
   pub chroma : Bool
+  pub has_tr : Bool
+  pub idx : ℕ
+  pub list : ℕ
   pub plane : ℕ
   pub tx_type : TxType
   pub a : A
 
 -- nothing is said yet, and this stands for the answer
 abbrev pub nothing : {A : Type 0} → A → Asked A
-nothing a = record { x = 0; y = 0; size = BLOCK_4X4; chroma = false; plane = 0; tx_type = DCT_DCT; a = a }
+nothing a = record { x = 0; y = 0; size = BLOCK_4X4; chroma = false; has_tr = false; idx = 0; list = 0; plane = 0; tx_type = DCT_DCT; a = a }
 
 abbrev pub block_size : Kind BlockSize
 block_size = choice size_of BLOCK_4X4
@@ -134,6 +141,61 @@ of_alphas alphas = Step (CflAlphas (slice_index_or alphas 0 (pos 0), slice_index
 abbrev pub cfl_alphas : Asked (List ℤ) → Item
 cfl_alphas s = of_alphas s.a
 
+-- whether a block is an inter block, and the two frames that it refers to
+abbrev pub is_inter : Asked Bool → Item
+is_inter s = Step (IsInter s.a)
+
+abbrev pub reference : Kind RefType
+reference = choice reference_of INTRA_FRAME
+
+abbrev pub ref_frames_rows : List (Row (Asked (List RefType)))
+ref_frames_rows = required (codes "a") (exactly 2 reference) (λ s x. record s { a = x }) ∷ []
+
+abbrev pub of_references : List RefType → Item
+of_references refs = Step (RefFrames (slice_index_or refs 0 INTRA_FRAME, slice_index_or refs 1 INTRA_FRAME))
+
+abbrev pub ref_frames : Asked (List RefType) → Item
+ref_frames s = of_references s.a
+
+-- the candidates of its vectors, and its mode
+abbrev pub mv_refs_rows : List (Row (Asked (Unit {0})))
+mv_refs_rows = required (codes "has_tr") truth (λ s x. record s { has_tr = x }) ∷ []
+
+abbrev pub mv_refs : Asked (Unit {0}) → Item
+mv_refs s = Step (MvRefs s.has_tr)
+
+abbrev pub inter_mode : Asked PredictionMode → Item
+inter_mode s = Step (InterMode s.a)
+
+abbrev pub compound_mode : Asked PredictionMode → Item
+compound_mode s = Step (CompoundMode s.a)
+
+-- whether a later candidate is taken than one, by its number
+abbrev pub drl_rows : List (Row (Asked Bool))
+drl_rows =
+    required (codes "idx") (whole 64) (λ s x. record s { idx = x })
+    ∷ required (codes "a") truth (λ s x. record s { a = x })
+    ∷ []
+
+abbrev pub drl : Asked Bool → Item
+drl s = Step (Drl s.idx s.a)
+
+-- a vector of a list: its row and its column
+abbrev pub mv_rows : List (Row (Asked (List ℤ)))
+mv_rows =
+    required (codes "list") (whole 64) (λ s x. record s { list = x })
+    ∷ required (codes "a") (exactly 2 (signed 16)) (λ s x. record s { a = x })
+    ∷ []
+
+abbrev pub vector_of : List ℤ → MotionVector
+vector_of parts = record { row = slice_index_or parts 0 (pos 0); col = slice_index_or parts 1 (pos 0) }
+
+abbrev pub of_vector : ℕ → List ℤ → Item
+of_vector list parts = Step (Mv list (vector_of parts))
+
+abbrev pub mv : Asked (List ℤ) → Item
+mv s = of_vector s.list s.a
+
 abbrev pub size_of_transform : Kind TxSize
 size_of_transform = choice tx_size_of TX_4X4
 
@@ -204,6 +266,18 @@ further_kinds =
     ∷ (codes "Abandon", end_of Abandon)
     ∷ []
 
+-- what an inter block is predicted from
+abbrev pub inter_kinds : List (List ℕ × (Left → Fitted Item))
+inter_kinds =
+    (codes "IsInter", made_of flag_rows false is_inter)
+    ∷ (codes "RefFrames", made_of ref_frames_rows [] ref_frames)
+    ∷ (codes "MvRefs", made_of mv_refs_rows tt mv_refs)
+    ∷ (codes "InterMode", made_of prediction_rows DC_PRED inter_mode)
+    ∷ (codes "CompoundMode", made_of prediction_rows DC_PRED compound_mode)
+    ∷ (codes "Drl", made_of drl_rows false drl)
+    ∷ (codes "Mv", made_of mv_rows [] mv)
+    ∷ further_kinds
+
 -- what a mode leaves open, and filters
 abbrev pub tool_kinds : List (List ℕ × (Left → Fitted Item))
 tool_kinds =
@@ -213,7 +287,7 @@ tool_kinds =
     ∷ (codes "Palette", made_of flag_rows false palette)
     ∷ (codes "Cdef", made_of byte_rows 0 cdef)
     ∷ (codes "DeltaLf", made_of delta_lf_rows [] delta_lf)
-    ∷ further_kinds
+    ∷ inter_kinds
 
 -- each kind by its name
 abbrev pub item_kinds : List (List ℕ × (Left → Fitted Item))

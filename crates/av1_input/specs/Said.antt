@@ -17,5 +17,6 @@ pub record Said : Type 0 where
   pub refs : List (Option RefState)
   pub metadata : List Metadata
   pub delimiter : Bool
+  pub eob_by_coded : Bool
   pub via : Via
   pub scripts : List (List Item)

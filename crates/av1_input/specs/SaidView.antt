@@ -11,6 +11,7 @@ said_by m = record {
   refs = m.refs;
   metadata = m.metadata.items;
   delimiter = m.delimiter;
+  eob_by_coded = m.eob_by_coded;
   via = m.via;
   scripts = m.scripts.items;
 }

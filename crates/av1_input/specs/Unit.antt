@@ -1,5 +1,5 @@
 -- What unit a JSON value stands for, and a text.
-use Rattle.std.specs.Prelude.{ℕ, List, [], ◌∷◌, true, Option, Some, None, option_map, if◌then◌else◌, codes}
+use Rattle.std.specs.Prelude.{ℕ, List, [], ◌∷◌, true, false, Option, Some, None, option_map, if◌then◌else◌, codes}
 use Rattle.std.specs.Str.{bytes_eq, is_utf8}
 use Rattle.serde_json.specs.Data.{Data}
 use Rattle.serde_json.specs.Read.{read}
@@ -36,6 +36,7 @@ nothing_said = record {
   refs = refs.none;
   metadata = [];
   delimiter = true;
+  eob_by_coded = false;
   via = Direct;
   scripts = [];
 }
@@ -49,6 +50,7 @@ unit_rows =
     ∷ optional (codes "refs") refs (λ s x. record s { refs = x })
     ∷ optional (codes "metadata") (list metadata) (λ s x. record s { metadata = x })
     ∷ or (codes "delimiter") truth true (λ s x. record s { delimiter = x })
+    ∷ optional (codes "eob_by_coded") truth (λ s x. record s { eob_by_coded = x })
     ∷ optional (codes "via") via (λ s x. record s { via = x })
     ∷ required (codes "tiles") (list script) (λ s x. record s { scripts = x })
     ∷ []
@@ -77,6 +79,7 @@ input_said s = record {
     refs = s.refs;
     metadata = s.metadata;
     delimiter = s.delimiter;
+    eob_by_coded = s.eob_by_coded;
   };
   scripts = s.scripts;
   via = s.via;

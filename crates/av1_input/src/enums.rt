@@ -5,6 +5,7 @@ ghost use Rattle.av1_geometry.specs.FrameType.{frame_type_of, reference_mode_of,
 ghost use Rattle.av1_geometry.specs.BlockSize.{size_of};
 ghost use Rattle.av1_geometry.specs.PartitionType.{partition_of};
 ghost use Rattle.av1_geometry.specs.PredictionMode.{prediction_mode_of};
+ghost use Rattle.av1_geometry.specs.RefType.{reference_of};
 ghost use Rattle.av1_geometry.specs.TxSize.{tx_size_of};
 ghost use Rattle.av1_geometry.specs.TxType.{tx_type_of};
 ghost use Rattle.av1_input.specs.Kinds.{choice};
@@ -15,7 +16,7 @@ use crate::numbers::usize_of;
 use crate::path::or_unfit;
 use av1_geometry::{
     BlockSize, ChromaSampling, FrameType, GlobalMVMode, PartitionType, PixelRange, PredictionMode,
-    ReferenceMode, TxSize, TxType,
+    RefType, ReferenceMode, TxSize, TxType,
 };
 use serde_json::Value;
 use std::alloc::Global;
@@ -159,6 +160,24 @@ impl FromJson for PredictionMode {
     fn from_json(alloc: Global, value: Value) -> Result<Self, ShapeError> {
         match usize_of(&value) {
             Some(number) => or_unfit(alloc, PredictionMode::from_number(number)),
+            None => Err(ShapeError::BadShape(String::new(alloc))),
+        }
+    }
+}
+
+impl FromJson for RefType {
+    ghost use Rattle.av1_geometry.specs.declared.ref_type.RefType.TheVariants.{INTRA_FRAME as First};
+
+    ghost kind = { choice reference_of First };
+
+    fn none(_alloc: Global) -> Self {
+        RefType::INTRA_FRAME
+    }
+
+    #[tactic(auto, unfolding(crate::specs::Kinds::fit_choice))]
+    fn from_json(alloc: Global, value: Value) -> Result<Self, ShapeError> {
+        match usize_of(&value) {
+            Some(number) => or_unfit(alloc, RefType::from_number(number)),
             None => Err(ShapeError::BadShape(String::new(alloc))),
         }
     }

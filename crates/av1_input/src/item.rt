@@ -1,8 +1,10 @@
 // An item of a tile's script from a JSON value.
 ghost use Rattle.std.specs.Prelude.{◌≡◌, [], ◌∷◌, false, pos};
-ghost use Rattle.av1_input.specs.Item.{item, script, item_kinds, tool_kinds, further_kinds, of_op, made_of, end_of, block, block_rows, parted};
+ghost use Rattle.av1_input.specs.Item.{item, script, item_kinds, tool_kinds, inter_kinds, further_kinds, of_op, made_of, end_of, block, block_rows, parted};
 ghost use Rattle.av1_input.specs.Item.{partition_rows, flag_rows, byte_rows, prediction_rows, skip, intra_mode_kf, intra_mode, uv_mode, filter_intra};
 ghost use Rattle.av1_input.specs.Item.{palette, cdef, begin, begin_rows, segment, delta_lf, delta_lf_rows, angle_delta, angle_delta_rows, cfl_alphas};
+ghost use Rattle.av1_input.specs.Item.{is_inter, ref_frames, ref_frames_rows, of_references, mv_refs, mv_refs_rows, inter_mode, compound_mode};
+ghost use Rattle.av1_input.specs.Item.{drl, drl_rows, mv, mv_rows, of_vector};
 ghost use Rattle.av1_input.specs.Item.{cfl_alphas_rows, of_alphas, tx_intra, tx_intra_rows, tx_inter, coeffs, coeffs_rows, levels, lrf, lrf_rows};
 ghost use Rattle.av1_geometry.specs.declared.prediction_mode.PredictionMode.TheVariants.{DC_PRED};
 ghost use Rattle.av1_geometry.specs.declared.partition_type.PartitionType.TheVariants.{PARTITION_NONE};
@@ -14,7 +16,7 @@ use crate::error::ShapeError;
 use crate::from_json::FromJson;
 use crate::list::read_list;
 use crate::members::Members;
-use av1_geometry::{BlockOffset, TileBlockOffset};
+use av1_geometry::{BlockOffset, MotionVector, RefType, TileBlockOffset};
 use av1_tile::{Item, Levels, TileScript, TileStep};
 use serde_json::Value;
 use std::alloc::Global;
@@ -94,6 +96,21 @@ fn tool_item_of(op: &str, members: Members) -> Result<Item, ShapeError>
         "Palette" => palette(members),
         "Cdef" => cdef(members),
         "DeltaLf" => delta_lf(members),
+        _ => inter_item_of(op, members),
+    }
+}
+
+fn inter_item_of(op: &str, members: Members) -> Result<Item, ShapeError>
+    ensures { Finishes (of_op inter_kinds op.now (left_of members)) members result }
+{
+    match op {
+        "IsInter" => is_inter(members),
+        "RefFrames" => ref_frames(members),
+        "MvRefs" => mv_refs(members),
+        "InterMode" => inter_mode(members),
+        "CompoundMode" => compound_mode(members),
+        "Drl" => drl(members),
+        "Mv" => mv(members),
         _ => further_item_of(op, members),
     }
 }
@@ -224,6 +241,76 @@ fn of_alphas(alphas: [i16; 2]) -> Item
 {
     let answer = (alphas[0], alphas[1]);
     Item::Step(TileStep::CflAlphas { answer })
+}
+
+fn is_inter(mut members: Members) -> Result<Item, ShapeError>
+    ensures { Finishes (made_of flag_rows false is_inter (left_of members)) members result }
+{
+    let answer = members.required("a");
+    members.finish(Item::Step(TileStep::IsInter { answer }))
+}
+
+fn ref_frames(mut members: Members) -> Result<Item, ShapeError>
+    ensures { Finishes (made_of ref_frames_rows [] ref_frames (left_of members)) members result }
+{
+    let refs = members.required("a");
+    members.finish(of_references(refs))
+}
+
+fn of_references(refs: [RefType; 2]) -> Item
+    ensures { result ≡ of_references refs }
+{
+    let answer = (refs[0], refs[1]);
+    Item::Step(TileStep::RefFrames { answer })
+}
+
+fn mv_refs(mut members: Members) -> Result<Item, ShapeError>
+    ensures { Finishes (made_of mv_refs_rows tt mv_refs (left_of members)) members result }
+{
+    let has_tr = members.required("has_tr");
+    members.finish(Item::Step(TileStep::MvRefs { has_tr }))
+}
+
+fn inter_mode(mut members: Members) -> Result<Item, ShapeError>
+    ensures { Finishes (made_of prediction_rows DC_PRED inter_mode (left_of members)) members result }
+{
+    let answer = members.required("a");
+    members.finish(Item::Step(TileStep::InterMode { answer }))
+}
+
+fn compound_mode(mut members: Members) -> Result<Item, ShapeError>
+    ensures { Finishes (made_of prediction_rows DC_PRED compound_mode (left_of members)) members result }
+{
+    let answer = members.required("a");
+    members.finish(Item::Step(TileStep::CompoundMode { answer }))
+}
+
+fn drl(mut members: Members) -> Result<Item, ShapeError>
+    ensures { Finishes (made_of drl_rows false drl (left_of members)) members result }
+{
+    let step = TileStep::Drl {
+        index: members.required("idx"),
+        answer: members.required("a"),
+    };
+    members.finish(Item::Step(step))
+}
+
+fn mv(mut members: Members) -> Result<Item, ShapeError>
+    ensures { Finishes (made_of mv_rows [] mv (left_of members)) members result }
+{
+    let list = members.required("list");
+    let parts = members.required("a");
+    members.finish(of_vector(list, parts))
+}
+
+fn of_vector(list: usize, parts: [i16; 2]) -> Item
+    ensures { result ≡ of_vector list parts }
+{
+    let answer = MotionVector {
+        row: parts[0],
+        col: parts[1],
+    };
+    Item::Step(TileStep::Mv { list, answer })
 }
 
 fn tx_intra(mut members: Members) -> Result<Item, ShapeError>

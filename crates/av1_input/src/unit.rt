@@ -55,6 +55,7 @@ struct UnitMembers {
     refs: Refs,
     metadata: Vec<Metadata>,
     delimiter: bool,
+    eob_by_coded: bool,
     via: Via,
     scripts: Vec<TileScript>,
 }
@@ -81,6 +82,7 @@ fn unit_members(alloc: Global, value: Value) -> Result<UnitMembers, ShapeError>
         refs: members.optional("refs"),
         metadata: members.list("metadata"),
         delimiter: members.or("delimiter", true),
+        eob_by_coded: members.optional("eob_by_coded"),
         via: members.optional("via"),
         scripts: members.required_list("tiles"),
     };
@@ -98,6 +100,7 @@ fn unit(alloc: Global, said: UnitMembers) -> Result<(Unit, Via), OutOfMemory>
         refs,
         metadata,
         delimiter,
+        eob_by_coded,
         via,
         scripts,
     } = said;
@@ -110,6 +113,7 @@ fn unit(alloc: Global, said: UnitMembers) -> Result<(Unit, Via), OutOfMemory>
         refs,
         metadata,
         delimiter,
+        eob_by_coded,
         scripts,
     };
     Ok((unit, via))

@@ -372,4 +372,214 @@ at /tiles/0/0/plane
 {"op":"Lrf","a":null}
 
 at /tiles/0/0/x
-{"op":"Lrf","plane":0,"a":null,"x":0}"#;
+{"op":"Lrf","plane":0,"a":null,"x":0}
+
+IsInter true
+{"op":"IsInter","a":true}
+
+IsInter false
+{"a":false,"op":"IsInter"}
+
+at /tiles/0/0/a
+{"op":"IsInter","a":1}
+
+at /tiles/0/0/a
+{"op":"IsInter","a":"true"}
+
+at /tiles/0/0/a
+{"op":"IsInter"}
+
+at /tiles/0/0/mode
+{"op":"IsInter","a":true,"mode":14}
+
+at /tiles/0/0/op
+{"op":"isInter","a":true}
+
+RefFrames 1 8
+{"op":"RefFrames","a":[1,8]}
+
+RefFrames 0 0
+{"op":"RefFrames","a":[0,0]}
+
+RefFrames 8 7
+{"op":"RefFrames","a":[8,7]}
+
+RefFrames 4 5
+{"op":"RefFrames","a":[4,5]}
+
+at /tiles/0/0/a
+{"op":"RefFrames","a":[1]}
+
+at /tiles/0/0/a
+{"op":"RefFrames","a":[1,2,3]}
+
+at /tiles/0/0/a/1
+{"op":"RefFrames","a":[1,9]}
+
+at /tiles/0/0/a/0
+{"op":"RefFrames","a":[9,9]}
+
+at /tiles/0/0/a/1
+{"op":"RefFrames","a":[1,-1]}
+
+at /tiles/0/0/a/1
+{"op":"RefFrames","a":[1,null]}
+
+at /tiles/0/0/a/0
+{"op":"RefFrames","a":["LAST_FRAME",8]}
+
+at /tiles/0/0/a
+{"op":"RefFrames","a":1}
+
+at /tiles/0/0/a
+{"op":"RefFrames","a":{"0":1,"1":8}}
+
+at /tiles/0/0/a
+{"op":"RefFrames"}
+
+at /tiles/0/0/b
+{"op":"RefFrames","a":[1,8],"b":[1,8]}
+
+MvRefs false
+{"op":"MvRefs","has_tr":false}
+
+MvRefs true
+{"op":"MvRefs","has_tr":true}
+
+at /tiles/0/0/has_tr
+{"op":"MvRefs"}
+
+at /tiles/0/0/has_tr
+{"op":"MvRefs","has_tr":0}
+
+at /tiles/0/0/a
+{"op":"MvRefs","has_tr":true,"a":null}
+
+at /tiles/0/0/has_tr
+{"op":"MvRefs","a":true}
+
+at /tiles/0/0/is_compound
+{"op":"MvRefs","is_compound":true,"has_tr":true}
+
+InterMode 14
+{"op":"InterMode","a":14}
+
+InterMode 33
+{"op":"InterMode","a":33}
+
+InterMode 0
+{"op":"InterMode","a":0}
+
+at /tiles/0/0/a
+{"op":"InterMode","a":34}
+
+at /tiles/0/0/a
+{"op":"InterMode","a":19.0}
+
+at /tiles/0/0/a
+{"op":"InterMode","a":"NEWMV"}
+
+at /tiles/0/0/a
+{"op":"InterMode"}
+
+at /tiles/0/0/ctx
+{"op":"InterMode","a":14,"ctx":0}
+
+CompoundMode 20
+{"op":"CompoundMode","a":20}
+
+CompoundMode 31
+{"op":"CompoundMode","a":31}
+
+at /tiles/0/0/a
+{"op":"CompoundMode","a":-1}
+
+at /tiles/0/0/a
+{"op":"CompoundMode","a":[20]}
+
+at /tiles/0/0/a
+{"op":"CompoundMode","idx":0}
+
+Drl 0 true
+{"op":"Drl","idx":0,"a":true}
+
+Drl 2 false
+{"a":false,"idx":2,"op":"Drl"}
+
+Drl 9223372036854775807 false
+{"op":"Drl","idx":9223372036854775807,"a":false}
+
+at /tiles/0/0/idx
+{"op":"Drl","idx":9223372036854775808,"a":false}
+
+at /tiles/0/0/idx
+{"op":"Drl","idx":-1,"a":2}
+
+at /tiles/0/0/idx
+{"op":"Drl","a":true}
+
+at /tiles/0/0/a
+{"op":"Drl","idx":1}
+
+at /tiles/0/0/idx
+{"op":"Drl","index":1,"a":true}
+
+at /tiles/0/0/index
+{"op":"Drl","idx":1,"index":1,"a":true}
+
+at /tiles/0/0/idx
+{"op":"Drl","idx":true,"a":true}
+
+at /tiles/0/0/a
+{"op":"Drl","idx":0,"a":0}
+
+at /tiles/0/0/idx
+{"op":"Drl","idx":-0,"a":true}
+
+Mv 0 0 2
+{"op":"Mv","list":0,"a":[0,2]}
+
+Mv 1 -32768 32767
+{"op":"Mv","a":[-32768,32767],"list":1}
+
+Mv 9223372036854775807 32767 -32768
+{"op":"Mv","list":9223372036854775807,"a":[32767,-32768]}
+
+at /tiles/0/0/a/0
+{"op":"Mv","list":0,"a":[32768,0]}
+
+at /tiles/0/0/a/1
+{"op":"Mv","list":0,"a":[0,-32769]}
+
+at /tiles/0/0/a
+{"op":"Mv","list":0,"a":[0]}
+
+at /tiles/0/0/a
+{"op":"Mv","list":0,"a":[0,0,0]}
+
+at /tiles/0/0/a
+{"op":"Mv","list":0,"a":{"row":0,"col":2}}
+
+at /tiles/0/0/a/1
+{"op":"Mv","list":0,"a":[0,2.0]}
+
+at /tiles/0/0/a/0
+{"op":"Mv","list":0,"a":[-0,2]}
+
+at /tiles/0/0/list
+{"op":"Mv","list":-1,"a":[0,2]}
+
+at /tiles/0/0/list
+{"op":"Mv","a":[0,2]}
+
+at /tiles/0/0/a
+{"op":"Mv","list":0}
+
+at /tiles/0/0/col
+{"op":"Mv","list":0,"row":0,"col":2,"a":[0,2]}
+
+at /tiles/0/0/mv
+{"op":"Mv","list":0,"a":[0,2],"mv":[0,2]}
+
+at /tiles/0/0/list
+{"op":"Mv","list":[0],"a":[0,2]}"#;

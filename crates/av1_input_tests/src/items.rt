@@ -46,6 +46,21 @@ fn one_step(told: &mut Told, step: &TileStep) -> Result<(), Fail> {
         TileStep::CflAlphas { answer } => told.line("CflAlphas", &[answer.0, answer.1]),
         TileStep::FilterIntra { answer } => told.line("FilterIntra", &[*answer]),
         TileStep::Palette { answer } => told.line("Palette", &[*answer]),
+        TileStep::IsInter { answer } => told.line("IsInter", &[*answer]),
+        TileStep::RefFrames { answer } => {
+            told.line("RefFrames", &[answer.0.number(), answer.1.number()])
+        }
+        TileStep::MvRefs { has_tr } => told.line("MvRefs", &[*has_tr]),
+        TileStep::InterMode { answer } => told.line("InterMode", &[answer.number()]),
+        TileStep::CompoundMode { answer } => told.line("CompoundMode", &[answer.number()]),
+        TileStep::Drl { index, answer } => {
+            told.line("Drl", &[*index])?;
+            told.values(&[*answer])
+        }
+        TileStep::Mv { list, answer } => {
+            told.line("Mv", &[*list])?;
+            told.values(&[answer.row, answer.col])
+        }
         TileStep::TxNote => told.line::<u16>("TxNote", &[]),
         TileStep::TxIntra { answer } => told.line("TxIntra", &[answer.number()]),
         TileStep::TxInter { answer } => told.line("TxInter", &[*answer]),

@@ -1,7 +1,7 @@
 //! Rows of JSON texts: which path is told of those that do not fit, and what each member of those that fit says. They were computed by a
 //! program of their own.
 //!
-//! - `rows`, `item_rows`: the rows
+//! - `path_rows`, `unit_rows`, `item_rows`: the rows
 //! - `told`: lines of text
 //! - `sequences`, `frames`, `states`, `units`, `items`: what is said, as lines
 //! - `tests`: each row through `read_unit`
@@ -10,10 +10,11 @@
 pub mod frames;
 pub mod item_rows;
 pub mod items;
-pub mod rows;
+pub mod path_rows;
 pub mod sequences;
 pub mod states;
 #[cfg(test)]
 mod tests;
 pub mod told;
+pub mod unit_rows;
 pub mod units;

@@ -1,7 +1,8 @@
 // Each row through `read_unit`.
 use crate::item_rows::ITEMS;
 use crate::items::items;
-use crate::rows::{PATHS, UNITS};
+use crate::path_rows::PATHS;
+use crate::unit_rows::UNITS;
 use crate::units::unit;
 use av1_input::{ShapeError, read_unit};
 use std::alloc::Global;

@@ -17,7 +17,7 @@ pub fn unit(alloc: Global, unit: &Unit, via: Via) -> Result<String, Fail> {
     scans(&mut told, &unit.scans)?;
     headers(&mut told, unit)?;
     metadata(&mut told, &unit.metadata)?;
-    ways(&mut told, unit.delimiter, via)?;
+    ways(&mut told, unit, via)?;
     scripts(&mut told, &unit.scripts)?;
     Ok(told.text())
 }
@@ -82,8 +82,9 @@ fn message(told: &mut Told, m: &T35) -> Result<(), Fail> {
     told.values(m.payload.as_slice())
 }
 
-fn ways(told: &mut Told, delimiter: bool, via: Via) -> Result<(), Fail> {
-    told.line("delimiter", &[delimiter])?;
+fn ways(told: &mut Told, unit: &Unit, via: Via) -> Result<(), Fail> {
+    told.line("delimiter", &[unit.delimiter])?;
+    told.line("eob_by_coded", &[unit.eob_by_coded])?;
     match via {
         Via::Direct => told.line("via", &["direct"]),
         Via::Recorded => told.line("via", &["recorded"]),

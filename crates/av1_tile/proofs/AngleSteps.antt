@@ -1,9 +1,9 @@
 -- What the kinds of step for angles and for factors of chroma from luma bring.
 use mir.Val.{SFits}
-use Rattle.std.proofs.Common.{◌≡◌, ℕ, zero, suc, ◌+◌, ◌-◌, ◌<◌, ◌≤◌, ◌≤ℤ◌, ℤ, pos, negsuc, List, [], ◌∷◌, Bool, true, false, Option, Some, None, Result, refl, sym, ap, subst, ◌∙◌, arith, int_le, nat_le, w16}
+use Rattle.std.proofs.Common.{◌≡◌, ℕ, zero, suc, ◌+◌, ◌<◌, ◌≤◌, ◌≤ℤ◌, ℤ, pos, negsuc, [], ◌∷◌, Bool, true, false, Option, Some, None, Result, refl, sym, ap, subst, ◌∙◌, arith, int_le, nat_le, w16}
 use Rattle.std.specs.Option.{option_map_or}
 use Rattle.std.proofs.lemmas.Int.{ints}
-use Rattle.av1_cdf.specs.Distribution.{HasSymbols, coded_by, learnt}
+use Rattle.av1_cdf.specs.Distribution.{HasSymbols}
 use Rattle.av1_geometry.specs.BlockSize.{number_of}
 use Rattle.av1_geometry.specs.Cfl.{sign_number, sign_of, sign_at, scale_at, signed, magnitude}
 use Rattle.av1_geometry.specs.PredictionMode.{prediction_mode_number}
@@ -12,16 +12,15 @@ use Rattle.av1_geometry.specs.declared.cfl.CFLParams.{CFLParams}
 use Rattle.av1_geometry.specs.declared.prediction_mode.PredictionMode.{PredictionMode}
 use Rattle.av1_model.specs.Comes.{Standing, Wrote}
 use Rattle.av1_model.specs.Element.{Reads, where_some}
-use Rattle.av1_model.proofs.ElementLaws.{reads_as}
 use Rattle.av1_syntax.specs.Factors.{factors_element, factors_of, AreFactors, AreCoded}
 use Rattle.av1_syntax.specs.IntraModes.{angle_delta_element}
 use Rattle.av1_syntax.proofs.Elements.{angle_delta_reads}
 use Rattle.av1_syntax.proofs.Factors.{neg_is}
 use Rattle.av1_syntax.proofs.Readings.{factors_read}
+use Rattle.av1_syntax.specs.Calls.{Context, coded_in, learnt_in}
 use Rattle.av1_tile.specs.AngleSteps.{angle_mode, is_directional, is_angle, are_factors, angle_delta_kind, cfl_alphas_kind}
-use Rattle.av1_tile.specs.Kept.{IsBlock}
-use Rattle.av1_tile.specs.Kind.{holds, rules_of, IsKind}
-use Rattle.av1_tile.specs.Tile.{Tile, CurrentBlock, place_of_block, size_of_block}
+use Rattle.av1_tile.specs.Kind.{rules_of, IsKind}
+use Rattle.av1_tile.specs.Tile.{Tile, CurrentBlock, size_of_block}
 use Rattle.av1_tile.proofs.KindLaws.{kind_reads, none_is}
 use Rattle.av1_tile.proofs.Places.{all_hold, both, is_at_most}
 
@@ -77,10 +76,10 @@ angle_delta_is_kind chroma t b = record {
 }
 
 -- the angle of a mode that is there was coded
-pub angle_as : {U E : Type 0} (r : Result U E) (o : Option PredictionMode) (m : PredictionMode) (x a : ℤ) (from to : Standing (List ℕ)) → o ≡ Some m → x ≡ a → Wrote coded_by (learnt true) r (angle_delta_element m).tree x from to →
-    Wrote coded_by (learnt true) r (where_some o angle_delta_element).tree a from to
+pub angle_as : {U E : Type 0} (r : Result U E) (o : Option PredictionMode) (m : PredictionMode) (x a : ℤ) (from to : Standing Context) → o ≡ Some m → x ≡ a → Wrote coded_in learnt_in r (angle_delta_element m).tree x from to →
+    Wrote coded_in learnt_in r (where_some o angle_delta_element).tree a from to
 angle_as r o m x a from to e same w =
-    subst (λ (p : Option PredictionMode). Wrote coded_by (learnt true) r (where_some p angle_delta_element).tree a from to) (sym e) (subst (λ y. Wrote coded_by (learnt true) r (angle_delta_element m).tree y from to) same w)
+    subst (λ (p : Option PredictionMode). Wrote coded_in learnt_in r (where_some p angle_delta_element).tree a from to) (sym e) (subst (λ y. Wrote coded_in learnt_in r (angle_delta_element m).tree y from to) same w)
 
 factors_are : (f : ℤ × ℤ) → are_factors f ≡ true → AreFactors f
 factors_are f h =
@@ -146,7 +145,7 @@ factor_fits (pos n) h = record { sfits = omega (arith, h) }
 factor_fits (negsuc n) h = record { sfits = omega (arith, h) }
 
 -- factors were coded by their signs and sizes
-pub factors_as : {U E : Type 0} (r : Result U E) (p : CFLParams) (f : ℤ × ℤ) (from to : Standing (List ℕ)) → p ≡ params f.0 f.1 → Wrote coded_by (learnt true) r factors_element.tree (factors_of p) from to →
-    Wrote coded_by (learnt true) r factors_element.tree f from to
+pub factors_as : {U E : Type 0} (r : Result U E) (p : CFLParams) (f : ℤ × ℤ) (from to : Standing Context) → p ≡ params f.0 f.1 → Wrote coded_in learnt_in r factors_element.tree (factors_of p) from to →
+    Wrote coded_in learnt_in r factors_element.tree f from to
 factors_as r p f from to e w =
-    subst (λ x. Wrote coded_by (learnt true) r factors_element.tree x from to) (params_factors f.0 f.1) (subst (λ (q : CFLParams). Wrote coded_by (learnt true) r factors_element.tree (factors_of q) from to) e w)
+    subst (λ x. Wrote coded_in learnt_in r factors_element.tree x from to) (params_factors f.0 f.1) (subst (λ (q : CFLParams). Wrote coded_in learnt_in r factors_element.tree (factors_of q) from to) e w)

@@ -1,67 +1,96 @@
 -- What the arms of a step have in common.
-use Rattle.std.proofs.Common.{◌≡◌, ℕ, ◌+◌, ◌*◌, ◌/◌, ◌%◌, ◌^◌, ◌<◌, ◌≤◌, List, [], ◌∷◌, Bool, true, false, IsTrue, Option, Some, None, Result, Ok, Err, is_none, is_some, if◌then◌else◌, refl, sym, ap, subst, ◌∙◌, arith}
+use Rattle.std.proofs.Common.{◌≡◌, ℕ, ◌+◌, ◌%◌, ◌^◌, ◌≤◌, List, [], ◌∷◌, Bool, true, false, IsTrue, Option, Some, None, Result, Ok, Err, is_none, if◌then◌else◌, refl, sym, ap, subst, ◌∙◌, arith}
 use Rattle.std.specs.Option.{option_map_or}
-use Rattle.av1_blocks.specs.declared.block_context.BlockContext.{BlockContext}
-use Rattle.av1_blocks.specs.Edges.{with_partition, HasEdges, taken}
-use Rattle.av1_blocks.specs.GoingBack.{gone_back}
-use Rattle.av1_blocks.specs.Places.{sb_column}
-use Rattle.av1_blocks.specs.Saved.{saved_of}
 use Rattle.av1_cdf.specs.Context.{AreCdfs}
 use Rattle.av1_cdf.specs.Distribution.{Distribution, coded_by, learnt}
-use Rattle.av1_cdf.specs.declared.log.CDFContextLog.{CDFContextLog}
 use Rattle.av1_ec.specs.declared.known.Known.{Ghosts}
 use Rattle.av1_ec.specs.Moves.{Moves}
-use Rattle.av1_ec.proofs.MovesLaws.{moves_as}
+use Rattle.av1_ec.proofs.MovesLaws.{moves_as, moves_none}
 use Rattle.av1_geometry.specs.declared.block_offset.BlockOffset.{BlockOffset}
 use Rattle.av1_geometry.specs.declared.block_size.BlockSize.{BlockSize}
 use Rattle.av1_geometry.specs.declared.partition_type.PartitionType.{PartitionType}
 use Rattle.av1_geometry.specs.BlockSize.{width_log2, height_log2, width_mi, height_mi}
 use Rattle.av1_geometry.specs.BlockTables.{subsize_of}
 use Rattle.av1_geometry.specs.Rules.{first_broken}
-use Rattle.av1_model.specs.Comes.{Standing, standing, Wrote, Writes as WritesAll, Begins}
-use Rattle.av1_model.specs.Syntax.{Syntax}
+use Rattle.av1_model.specs.Syntax.{Leads, Syntax}
+use Rattle.av1_model.specs.Comes.{standing, Writes as WritesAll, Begins}
 use Rattle.av1_syntax.specs.Partition.{IsParted, has_cols, has_rows, is_allowed}
+use Rattle.av1_syntax.proofs.Moving.{moves_of}
+use Rattle.av1_syntax.specs.Calls.{Moving, coded_in, context_of, learnt_in, stands}
 use Rattle.av1_tile.specs.declared.tile.TileState.{TileState}
 use Rattle.av1_tile.specs.declared.unit.TileStep.{TileStep}
 use Rattle.av1_tile.specs.declared.unit.TileStep.TheVariants.{Partition, Skip}
-use Rattle.av1_tile.specs.Effect.{Effect, Parted, changed_by_all}
+use Rattle.av1_tile.specs.Effect.{Parted, changed_by_all}
 use Rattle.av1_tile.specs.Kept.{IsBlock, IsKept}
 use Rattle.av1_tile.specs.Kind.{Kind, steps, rules_of, of_current}
 use Rattle.av1_tile.specs.State.{tile_of, log_of}
-use Rattle.av1_tile.specs.Step.{entered, is_split_on, parted, partition_kind, question_of, skip_kind, syntax_of}
+use Rattle.av1_tile.specs.Step.{entered, is_split_on, partition_kind, question_of, skip_kind, syntax_of}
 use Rattle.av1_tile.specs.Tile.{Tile, CurrentBlock, with_numbers}
 use Rattle.av1_tile.specs.Writing.{Writes}
 use Rattle.av1_tile.proofs.Effects.{side_within}
 use Rattle.av1_tile.proofs.KindLaws.{asking_holds, answering_holds, none_is, wrote_step}
 use Rattle.av1_tile.proofs.Places.{all_hold}
-use Rattle.av1_tile.proofs.StepLaws.{IsAllowed, IsPaired, can_part, is_paired}
+use Rattle.av1_tile.proofs.Ready.{is_paired}
+use Rattle.av1_tile.proofs.StepLaws.{IsAllowed, can_part, entered_same}
+use Rattle.av1_tile.proofs.Switches.{wrote_numbers}
 
 module _ {W : Type 0} (writer : Ghosts W) where
-  -- a step is written: its element was, and its answer is entered
-  pub writes_whole : {A U E : Type 0} (r : Result U E) (v : U) → r ≡ Ok v → (step : TileStep) (k : Kind A) (a : A) (w later : W) (old new : TileState) (most : ℕ) → steps k ≡ syntax_of (question_of step) (tile_of old) → k.step a ≡ step
-      → first_broken (rules_of k a) ≡ None → WritesAll coded_by (learnt true) k.element.tree a (standing (writer.position w) (tile_of old).numbers) (standing (writer.position later) (tile_of new).numbers)
+  -- a step is written: the symbols of its element were, and its answer is entered
+  pub writes_numbers : {A U E : Type 0} (r : Result U E) (v : U) → r ≡ Ok v → (step : TileStep) (k : Kind A) (a : A) (w later : W) (old new : TileState) (most : ℕ) → steps k ≡ syntax_of (question_of step) (tile_of old) → k.step a ≡ step
+      → first_broken (rules_of k a) ≡ None → WritesAll coded_by (learnt (tile_of old).learns) k.element.tree a (standing (writer.position w) (tile_of old).numbers) (standing (writer.position later) (tile_of new).numbers)
       → tile_of new ≡ entered step (with_numbers (tile_of new).numbers (tile_of old)) → most ≤ 2 ^ 24 → Moves writer most w later (log_of old) (log_of new) (tile_of old).numbers (tile_of new).numbers → Writes writer r step w later old new
-  writes_whole {U = U} {E = E} r v is step k a w later old new most tree named allowed wrote tile few moves =
+  writes_numbers {U = U} {E = E} r v is step k a w later old new most tree named allowed wrote tile few moves =
+      let learns = (tile_of old).learns in
       let from = standing (writer.position w) (tile_of old).numbers in
       let to = standing (writer.position later) (tile_of new).numbers in
-      let whole : WritesAll coded_by (learnt true) (steps k) (k.step a) from to = wrote_step {U = U} {E = E} true (Ok v) k a from to allowed wrote in
-      let here : WritesAll coded_by (learnt true) (syntax_of (question_of step) (tile_of old)) step from to =
-      subst (λ (t : Syntax Distribution TileStep). WritesAll coded_by (learnt true) t step from to) tree (subst (λ (s : TileStep). WritesAll coded_by (learnt true) (steps k) s from to) named whole) in
+      let whole : WritesAll coded_by (learnt learns) (steps k) (k.step a) from to = wrote_step {U = U} {E = E} learns (Ok v) k a from to allowed wrote in
+      let here : WritesAll coded_by (learnt learns) (syntax_of (question_of step) (tile_of old)) step from to =
+      subst (λ (t : Syntax Distribution TileStep). WritesAll coded_by (learnt learns) t step from to) tree (subst (λ (s : TileStep). WritesAll coded_by (learnt learns) (steps k) s from to) named whole) in
       subst (λ (x : Result U E). Writes writer x step w later old new) (sym is)
       (record { wrote = here; tile = tile; refused = tt; moves = moves_as writer most (2 ^ 24) w later (log_of old) (log_of new) (log_of new) (tile_of old).numbers (tile_of new).numbers (tile_of new).numbers refl refl few moves })
 
+  -- a step is written: its element was, and its answer is entered
+  pub writes_whole : {A U E : Type 0} (r : Result U E) (v : U) → r ≡ Ok v → (step : TileStep) (k : Kind A) (a : A) (w later : W) (old new : TileState) (most : ℕ) → steps k ≡ syntax_of (question_of step) (tile_of old) → k.step a ≡ step
+      → first_broken (rules_of k a) ≡ None → WritesAll coded_in learnt_in k.element.tree a (stands writer w old.cw) (stands writer later new.cw)
+      → tile_of new ≡ entered step (with_numbers (tile_of new).numbers (tile_of old)) → most ≤ 2 ^ 24 → Moving writer most w later (log_of old) (log_of new) (context_of old.cw) (context_of new.cw) → Writes writer r step w later old new
+  writes_whole {U = U} {E = E} r v is step k a w later old new most tree named allowed wrote tile few moves =
+      writes_numbers r v is step k a w later old new most tree named allowed
+      (wrote_numbers {U = U} {E = E} (Ok v) k.element.tree a (tile_of old).learns (stands writer w old.cw) (stands writer later new.cw) old.switches.adapt_is wrote) tile few
+      (moves_of writer most w later (log_of old) (log_of new) (context_of old.cw) (context_of new.cw) moves)
+
   -- a step is refused: its element was begun, and all else stays
   pub writes_front : {A U E : Type 0} (r : Result U E) (e : E) → r ≡ Err e → (step : TileStep) (k : Kind A) (a : A) (w later : W) (old new : TileState) (most : ℕ) → steps k ≡ syntax_of (question_of step) (tile_of old) → k.step a ≡ step
-      → first_broken (rules_of k a) ≡ None → Begins coded_by (learnt true) k.element.tree a (standing (writer.position w) (tile_of old).numbers) (standing (writer.position later) (tile_of new).numbers)
-      → tile_of new ≡ with_numbers (tile_of new).numbers (tile_of old) → most ≤ 2 ^ 24 → Moves writer most w later (log_of old) (log_of new) (tile_of old).numbers (tile_of new).numbers → Writes writer r step w later old new
+      → first_broken (rules_of k a) ≡ None → Begins coded_in learnt_in k.element.tree a (stands writer w old.cw) (stands writer later new.cw)
+      → tile_of new ≡ with_numbers (tile_of new).numbers (tile_of old) → most ≤ 2 ^ 24 → Moving writer most w later (log_of old) (log_of new) (context_of old.cw) (context_of new.cw) → Writes writer r step w later old new
   writes_front {U = U} {E = E} r e is step k a w later old new most tree named allowed wrote tile few moves =
+      let learns = (tile_of old).learns in
       let from = standing (writer.position w) (tile_of old).numbers in
       let to = standing (writer.position later) (tile_of new).numbers in
-      let front : Begins coded_by (learnt true) (steps k) (k.step a) from to = wrote_step {U = U} {E = E} true (Err e) k a from to allowed wrote in
-      let here : Begins coded_by (learnt true) (syntax_of (question_of step) (tile_of old)) step from to =
-      subst (λ (t : Syntax Distribution TileStep). Begins coded_by (learnt true) t step from to) tree (subst (λ (s : TileStep). Begins coded_by (learnt true) (steps k) s from to) named front) in
+      let begun : Begins coded_by (learnt learns) k.element.tree a from to =
+      wrote_numbers {U = U} {E = E} (Err e) k.element.tree a learns (stands writer w old.cw) (stands writer later new.cw) old.switches.adapt_is wrote in
+      let front : Begins coded_by (learnt learns) (steps k) (k.step a) from to = wrote_step {U = U} {E = E} learns (Err e) k a from to allowed begun in
+      let here : Begins coded_by (learnt learns) (syntax_of (question_of step) (tile_of old)) step from to =
+      subst (λ (t : Syntax Distribution TileStep). Begins coded_by (learnt learns) t step from to) tree (subst (λ (s : TileStep). Begins coded_by (learnt learns) (steps k) s from to) named front) in
+      let moved = moves_of writer most w later (log_of old) (log_of new) (context_of old.cw) (context_of new.cw) moves in
       subst (λ (x : Result U E). Writes writer x step w later old new) (sym is)
-      (record { wrote = here; tile = tt; refused = tile; moves = moves_as writer most (2 ^ 24) w later (log_of old) (log_of new) (log_of new) (tile_of old).numbers (tile_of new).numbers (tile_of new).numbers refl refl few moves })
+      (record { wrote = here; tile = tt; refused = tile; moves = moves_as writer most (2 ^ 24) w later (log_of old) (log_of new) (log_of new) (tile_of old).numbers (tile_of new).numbers (tile_of new).numbers refl refl few moved })
+
+-- where its answer is known, nothing is coded of a step of the current block
+silent_leads : (step : Unit {0} → TileStep) (f : CurrentBlock → Kind (Unit {0})) (o : Option CurrentBlock) → ((b : CurrentBlock) → Leads (f b).element.tree [] tt) → first_broken (rules_of (of_current o step f) tt) ≡ None →
+    Leads (of_current o step f).element.tree [] tt
+silent_leads step f None known h = let z : ⊥ = cc in absurd z
+silent_leads step f (Some b) known h = known b
+
+pub silent_wrote : {W E : Type 0} (writer : Ghosts W) (step : TileStep) (named : Unit {0} → TileStep) (f : CurrentBlock → Kind (Unit {0})) (w : W) (old new : TileState) → let k = of_current (tile_of old).current named f in
+    steps k ≡ syntax_of (question_of step) (tile_of old) → k.step tt ≡ step → ((b : CurrentBlock) → Leads (f b).element.tree [] tt) → first_broken (rules_of k tt) ≡ None →
+    tile_of new ≡ entered step (tile_of old) → log_of new ≡ log_of old → AreCdfs (tile_of old).numbers → Writes {U = Unit {0}} {E = E} writer (Ok tt) step w w old new
+silent_wrote writer step named f w old new tree is known allowed tile log cdfs =
+    let t = tile_of old in
+    let numbers : (tile_of new).numbers ≡ t.numbers = ap (λ (x : Tile). x.numbers) tile ∙ (entered_same step t).0 in
+    writes_numbers writer _ tt refl step (of_current t.current named f) tt w w old new (2 ^ 24) tree is allowed
+    (record { symbols = []; follows = silent_leads named f t.current known allowed; fits = tt; wrote = ap (standing (writer.position w)) numbers })
+    (tile ∙ ap (λ (ns : List ℕ). entered step (with_numbers ns t)) (sym numbers)) (omega arith)
+    (moves_none writer _ _ _ _ _ _ log numbers cdfs)
 
 -- what an allowed partition has
 pub partition_allowed : (x y : ℕ) (size : BlockSize) (p : PartitionType) (t : Tile) → IsKept t → IsAllowed (Partition x y size p) t →

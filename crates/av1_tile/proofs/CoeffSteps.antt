@@ -1,23 +1,19 @@
 -- What the steps of transform blocks bring.
-use Rattle.std.proofs.Common.{◌≡◌, ◌⊎◌, ℕ, zero, suc, ◌+◌, ◌-◌, ◌*◌, ◌/◌, ◌%◌, ◌^◌, ◌<◌, ◌≤◌, ◌&&◌, ◌||◌, ◌==◌, not, min, max, List, [], ◌∷◌, ◌++◌, Bool, true, false, IsTrue, Option, Some, None, is_some, length, nat_eq, nat_lt, nat_le, find, get_or, slice_index_or, ℤ, pos, unsigned_abs, if◌then◌else◌, inl, inr, refl, sym, ap, subst, ◌∙◌, arith}
+use Rattle.std.proofs.Common.{◌≡◌, ℕ, zero, suc, ◌+◌, ◌-◌, ◌*◌, ◌/◌, ◌%◌, ◌^◌, ◌<◌, ◌≤◌, ◌&&◌, ◌||◌, ◌==◌, min, max, List, [], ◌∷◌, Bool, true, false, IsTrue, Option, Some, None, is_some, length, nat_eq, nat_lt, nat_le, find, slice_index_or, ℤ, pos, unsigned_abs, if◌then◌else◌, inl, inr, refl, sym, ap, subst, ◌∙◌, arith}
 use Rattle.std.specs.Prelude.{unwrap_or}
-use Rattle.std.specs.List.{list_all}
-use Rattle.std.specs.Option.{option_map_or}
 use Rattle.std.proofs.lemmas.Bool.Decides.{nat_tests}
 use Rattle.std.proofs.lemmas.List.Folds.{list_all_at}
 use Rattle.av1_blocks.proofs.GoingBack.{halved_once}
 use Rattle.av1_blocks.specs.Coefficients.{entries_above, entries_left, greatest, has_sides, is_any, is_larger, txb_context}
 use Rattle.av1_blocks.specs.Edges.{halvings}
-use Rattle.av1_blocks.specs.declared.coefficients.TXB_CTX.{TXB_CTX}
-use Rattle.av1_cdf.specs.Distribution.{Distribution, HasSymbols}
+use Rattle.av1_cdf.specs.Distribution.{HasSymbols}
 use Rattle.av1_coef.proofs.Tests.{either, false_true}
 use Rattle.av1_coef.specs.Contexts.{coded_area}
 use Rattle.av1_coef.specs.Scans.{scan_of}
-use Rattle.av1_geometry.specs.BlockSize.{width_log2, height_log2, width_mi, height_mi, with_sides}
+use Rattle.av1_geometry.specs.BlockSize.{width_log2, height_log2, with_sides}
 use Rattle.av1_geometry.specs.BlockTables.{max_tx_size, subsampled_size_of}
-use Rattle.av1_geometry.specs.ChromaSampling.{xdec_of, ydec_of, planes_of}
+use Rattle.av1_geometry.specs.ChromaSampling.{xdec_of, ydec_of}
 use Rattle.av1_geometry.specs.PredictionMode.{prediction_mode_number}
-use Rattle.av1_geometry.specs.Rules.{first_broken, rule}
 use Rattle.av1_geometry.specs.TxSize.{tx_width_log2, tx_height_log2}
 use Rattle.av1_geometry.specs.TxTables.{coded_size, is_type, tx_set, uses}
 use Rattle.av1_geometry.specs.declared.block_offset.BlockOffset.{BlockOffset}
@@ -33,16 +29,15 @@ use Rattle.av1_geometry.specs.declared.tx_type.TxType.TheVariants.{DCT_DCT, ADST
 use Rattle.av1_model.specs.Element.{Reads}
 use Rattle.av1_model.proofs.ElementLaws.{renamed_reads}
 use Rattle.av1_syntax.proofs.CoeffWhole.{element_reads}
-use Rattle.av1_syntax.specs.Coefficients.{block_contexts, entry_of, is_inter, type_without, AreCoeffs, AreLevels, IsTyped}
-use Rattle.av1_tile.specs.CoeffSteps.{are_levels, chroma_coeffs_kind, coeffs_answering, coeffs_asking, coeffs_of, ends_in_some, has_coeffs, has_type, is_transform, is_whole_steps, luma_coeffs_kind, size_in, transform_of, tx_in, xdec_in, ydec_in}
-use Rattle.av1_tile.specs.Effect.{Filled}
+use Rattle.av1_syntax.specs.Coefficients.{block_contexts, is_inter, type_without, AreCoeffs, AreLevels, IsTyped}
+use Rattle.av1_tile.specs.CoeffSteps.{are_levels, chroma_coeffs_kind, coeffs_answering, coeffs_asking, coeffs_of, has_coeffs, has_type, is_transform, is_whole_steps, luma_coeffs_kind, size_in, transform_of, tx_in, xdec_in, ydec_in}
 use Rattle.av1_tile.specs.IntraSteps.{mode_at}
-use Rattle.av1_tile.specs.Kept.{IsBlock, IsKept, IsTransform}
-use Rattle.av1_tile.specs.Kind.{holds, rules_of, IsKind}
+use Rattle.av1_tile.specs.Kept.{IsKept, IsTransform}
+use Rattle.av1_tile.specs.Kind.{holds, IsKind}
 use Rattle.av1_tile.specs.Tile.{Tile, CurrentBlock, grid_block, has_chroma_size, is_inside, place_of_block, sampling, size_of_block}
 use Rattle.av1_tile.proofs.Effects.{largest_sides}
 use Rattle.av1_tile.proofs.IntraSteps.{fine_at}
-use Rattle.av1_tile.proofs.KindLaws.{answering_holds, asking_holds, kind_reads, none_is}
+use Rattle.av1_tile.proofs.KindLaws.{asking_holds, kind_reads, none_is}
 use Rattle.av1_tile.proofs.Places.{all_hold, both, is_at_most}
 
 -- the sides of a coded transform
@@ -285,7 +280,7 @@ element_is_read : (t : Tile) (b : CurrentBlock) (plane : ℕ) (bo : BlockOffset)
 element_is_read t b plane bo given k e =
     let of = transform_of t b plane bo in
     let few = context_few plane of.plane_bsize of.tx_size (entries_above t.bc plane bo of.xdec of.width) (entries_left t.bc plane bo of.ydec of.height) in
-    element_reads plane of.tx_size of.mode t.given.fi.use_reduced_tx_set given (block_contexts t.bc plane bo of.plane_bsize of.tx_size of.xdec of.ydec of.width of.height) (scan_of t.given.scans of.tx_size)
+    element_reads t.given.eob_by_coded plane of.tx_size of.mode t.given.fi.use_reduced_tx_set given (block_contexts t.bc plane bo of.plane_bsize of.tx_size of.xdec of.ydec of.width of.height) (scan_of t.given.scans of.tx_size)
     (λ luma h. mode_is_luma t b k e h) few.0 few.1
 
 ends : (some : Bool) (n : ℕ) → (some || nat_lt 0 n) ≡ true → some ≡ false → 1 ≤ n

@@ -1,45 +1,42 @@
 -- The coefficients of a transform block are checked and written.
-use Rattle.std.proofs.Common.{◌≡◌, ℕ, zero, suc, ◌+◌, ◌-◌, ◌*◌, ◌/◌, ◌%◌, ◌^◌, ◌<◌, ◌≤◌, ◌||◌, ◌&&◌, ◌==◌, not, min, List, [], ◌∷◌, ◌++◌, Bool, true, false, Option, Some, None, Result, Ok, Err, is_none, is_some, OnOk, OnErr, IsErr, unsigned_abs, length, map, take, slice_index_or, ℤ, pos, refl, sym, ap, subst, ◌∙◌, arith, inl, inr, ◌⊎◌, IsTrue, if◌then◌else◌, nat_eq}
+use Rattle.std.proofs.Common.{◌≡◌, ℕ, zero, suc, ◌+◌, ◌-◌, ◌/◌, ◌%◌, ◌^◌, ◌<◌, ◌≤◌, ◌||◌, ◌&&◌, ◌==◌, not, List, [], ◌∷◌, ◌++◌, Bool, true, false, Option, Some, None, Result, Ok, Err, is_none, is_some, OnOk, OnErr, IsErr, unsigned_abs, length, map, take, slice_index_or, ℤ, pos, refl, sym, ap, subst, ◌∙◌, arith, inl, inr, ◌⊎◌, IsTrue, nat_eq}
 use Rattle.std.proofs.lemmas.Bool.Decides.{nat_tests}
 use Rattle.av1_blocks.proofs.GoingBack.{halved_once, one_or_two}
-use Rattle.av1_blocks.specs.Edges.{halvings, with_coefficients}
+use Rattle.av1_blocks.specs.Edges.{with_coefficients}
 use Rattle.av1_blocks.specs.declared.block_context.BlockContext.{BlockContext}
 use Rattle.av1_cdf.specs.Context.{AreCdfs}
-use Rattle.av1_cdf.specs.Distribution.{coded_by, learnt}
 use Rattle.av1_coef.proofs.AllScans.{passing_each, passing_scan}
 use Rattle.av1_coef.proofs.Causal.{scan_keeps}
 use Rattle.av1_coef.proofs.CodedSizes.{area_few}
 use Rattle.av1_coef.specs.Contexts.{coded_area}
 use Rattle.av1_coef.specs.Scans.{all_there, each_once, is_in, of_each, scan_of}
 use Rattle.av1_ec.specs.declared.known.Known.{Ghosts}
-use Rattle.av1_ec.specs.Moves.{Moves}
 use Rattle.av1_geometry.specs.ChromaSampling.{xdec_of, ydec_of, planes_of}
 use Rattle.av1_geometry.specs.TxSize.{tx_width_log2, tx_height_log2}
 use Rattle.av1_geometry.specs.declared.chroma_sampling.ChromaSampling.{ChromaSampling}
 use Rattle.av1_geometry.specs.declared.chroma_sampling.ChromaSampling.TheVariants.{Cs420, Cs422, Cs444, Cs400}
 use Rattle.av1_geometry.specs.PredictionMode.{prediction_mode_number}
 use Rattle.av1_geometry.specs.Rules.{first_broken}
-use Rattle.av1_geometry.specs.TxTables.{class_of, tx_set, uses}
+use Rattle.av1_geometry.specs.TxTables.{class_of}
 use Rattle.av1_geometry.specs.declared.block_offset.BlockOffset.{BlockOffset}
-use Rattle.av1_geometry.specs.declared.tx_type.TxClass.{TxClass}
 use Rattle.av1_geometry.specs.declared.tx_type.TxType.{TxType}
-use Rattle.av1_geometry.specs.declared.tx_type.TxType.TheVariants.{DCT_DCT}
-use Rattle.av1_model.specs.Comes.{Standing, standing, Wrote, Writes as WritesAll, Begins}
+use Rattle.av1_model.specs.Comes.{Standing, Wrote}
 use Rattle.av1_model.proofs.ComesLaws.{wrote_as}
 use Rattle.av1_model.specs.Syntax.Syntax.{Done}
 use Rattle.av1_syntax.proofs.CoeffKnown.{scan_long}
-use Rattle.av1_syntax.specs.Coefficients.{entry_of, is_inter, levels_at, value_at, AreCoded, AreLevels, HasType}
+use Rattle.av1_syntax.specs.Coefficients.{entry_of, levels_at, value_at, AreCoded, AreLevels, HasType}
+use Rattle.av1_syntax.specs.Calls.{Context, Moving, coded_in, context_of, learnt_in, stands}
 use Rattle.av1_tile.specs.declared.coeff_steps.TransformBlock.{TransformBlock}
 use Rattle.av1_tile.specs.declared.tile.TileState.{TileState}
 use Rattle.av1_tile.specs.declared.unit.TileStep.TheVariants.{Coeffs}
-use Rattle.av1_tile.specs.CoeffSteps.{chroma_coeffs_kind, coeffs_answering, coeffs_asking, coeffs_by, coeffs_effects, coeffs_of, has_type, luma_coeffs_kind, transform_of, tx_in, xdec_in, ydec_in}
-use Rattle.av1_tile.specs.Effect.{Filled, changed_by_all}
+use Rattle.av1_tile.specs.CoeffSteps.{chroma_coeffs_kind, coeffs_answering, coeffs_asking, coeffs_by, coeffs_in, coeffs_effects, coeffs_of, has_type, luma_coeffs_kind, transform_of, tx_in, xdec_in, ydec_in}
+use Rattle.av1_tile.specs.Effect.{changed_by_all}
 use Rattle.av1_tile.specs.Given.{broken_scan_rule}
 use Rattle.av1_tile.specs.IntraSteps.{mode_at}
 use Rattle.av1_tile.specs.Kept.{IsKept, IsTransform}
 use Rattle.av1_tile.specs.Kind.{holds, rules_of, steps}
 use Rattle.av1_tile.specs.State.{tile_of, log_of}
-use Rattle.av1_tile.specs.Step.{entered, kind_of, question_of, rules, syntax_of}
+use Rattle.av1_tile.specs.Step.{entered, kind_of, question_of, rules}
 use Rattle.av1_tile.specs.Tile.{Tile, CurrentBlock, is_inside, sampling, with_numbers}
 use Rattle.av1_tile.specs.Writing.{Writes}
 use Rattle.av1_tile.proofs.Arms.{writes_whole, writes_front}
@@ -50,7 +47,8 @@ use Rattle.av1_tile.proofs.Places.{all_hold}
 use Rattle.av1_tile.proofs.Marking.{inside_is}
 use Rattle.av1_tile.proofs.Effects.{numbers_kept}
 use Rattle.av1_tile.proofs.FilterArms.{only_numbers}
-use Rattle.av1_tile.proofs.StepLaws.{IsAllowed, is_paired, kept_after}
+use Rattle.av1_tile.proofs.Ready.{is_paired}
+use Rattle.av1_tile.proofs.StepLaws.{IsAllowed, kept_after}
 
 both_pass : (a b : Bool) → (a && b) ≡ true → (a ≡ true) × (b ≡ true)
 both_pass true b h = (refl, h)
@@ -248,11 +246,12 @@ module _ (plane x y : ℕ) (given : TxType) (levels : List ℤ) where
         (subst (λ (s : List ℕ). (p : ℕ) → is_in (take (length levels) s) p ≡ false → value_at values p ≡ pos 0) there (subst (λ m. (p : ℕ) → is_in (take m scan) p ≡ false → value_at values p ≡ pos 0) count none)))))
 
   -- a call is given what the definitions say, and wrote the levels' element
-  pub written_is : {U E : Type 0} (r : Result U E) (t : Tile) (b : CurrentBlock) (of : TransformBlock) (laid : List ℤ) (from to : Standing (List ℕ)) → of ≡ transform_of t b plane place → laid ≡ levels →
-      Wrote coded_by (learnt true) r (coeffs_by t plane place given of).tree (given, laid) from to → Wrote coded_by (learnt true) r (coeffs_of t b plane place given).tree (given, levels) from to
-  written_is r t b of laid from to is same w =
-      subst (λ (l : List ℤ). Wrote coded_by (learnt true) r (coeffs_of t b plane place given).tree (given, l) from to) same
-      (subst (λ (o : TransformBlock). Wrote coded_by (learnt true) r (coeffs_by t plane place given o).tree (given, laid) from to) is w)
+  pub written_is : {U E : Type 0} (r : Result U E) (t : Tile) (b : CurrentBlock) (of : TransformBlock) (by_coded : Bool) (laid : List ℤ) (from to : Standing Context) → by_coded ≡ t.given.eob_by_coded → of ≡ transform_of t b plane place → laid ≡ levels →
+      Wrote coded_in learnt_in r (coeffs_in by_coded t plane place given of).tree (given, laid) from to → Wrote coded_in learnt_in r (coeffs_of t b plane place given).tree (given, levels) from to
+  written_is r t b of by_coded laid from to by is same w =
+      subst (λ (l : List ℤ). Wrote coded_in learnt_in r (coeffs_of t b plane place given).tree (given, l) from to) same
+      (subst (λ (o : TransformBlock). Wrote coded_in learnt_in r (coeffs_by t plane place given o).tree (given, laid) from to) is
+      (subst (λ c. Wrote coded_in learnt_in r (coeffs_in c t plane place given of).tree (given, laid) from to) by w))
 
   -- the state after the call
   pub coeffs_entered : (t : Tile) (b : CurrentBlock) (fc : List ℕ) (bc : BlockContext) (of : TransformBlock) (laid : List ℤ) → t.current ≡ Some b → of ≡ transform_of t b plane place → laid ≡ levels →
@@ -272,10 +271,10 @@ module _ (plane x y : ℕ) (given : TxType) (levels : List ℤ) where
   coeffs_kept (Err e) t b fc bc of laid k cdfs current allowed is same edges rest = subst IsKept (sym (only_numbers t fc bc rest)) (numbers_kept fc t k)
 
   module _ {W : Type 0} (writer : Ghosts W) (b : CurrentBlock) (w later : W) (old new : TileState) (is : (tile_of old).current ≡ Some b) (allowed : IsAllowed (Coeffs plane x y given levels) (tile_of old))
-      (moves : Moves writer (2 ^ 20) w later (log_of old) (log_of new) (tile_of old).numbers (tile_of new).numbers) where
+      (moves : Moving writer (2 ^ 20) w later (log_of old) (log_of new) (context_of old.cw) (context_of new.cw)) where
     -- what the call of the element wrote
     abbrev HasWritten : {U E : Type 0} → Result U E → ℕ → Type 0
-    HasWritten r p = Wrote coded_by (learnt true) r (coeffs_of (tile_of old) b p place given).tree (given, levels) (standing (writer.position w) (tile_of old).numbers) (standing (writer.position later) (tile_of new).numbers)
+    HasWritten r p = Wrote coded_in learnt_in r (coeffs_of (tile_of old) b p place given).tree (given, levels) (stands writer w old.cw) (stands writer later new.cw)
 
     pub coeffs_written : {U E : Type 0} (v : U) → HasWritten {U = U} {E = E} (Ok v) plane → tile_of new ≡ entered (Coeffs plane x y given levels) (with_numbers (tile_of new).numbers (tile_of old)) → (r : Result U E) → r ≡ Ok v →
         Writes writer r (Coeffs plane x y given levels) w later old new
@@ -290,7 +289,7 @@ module _ (plane x y : ℕ) (given : TxType) (levels : List ℤ) where
             let t = tile_of old in
             writes_whole writer r v ok (Coeffs (suc p) x y given levels) (chroma_coeffs_kind t (Some b) (suc p) place given) levels w later old new (2 ^ 20) (ap (λ (o : Option CurrentBlock). steps (chroma_coeffs_kind t o (suc p) place given)) (sym is)) refl
             (subst (λ (o : Option CurrentBlock). first_broken (rules_of (chroma_coeffs_kind t o (suc p) place given) levels) ≡ None) is allowed)
-            (wrote_as coded_by (learnt true) {U = U} {E = E} (Ok v) (coeffs_of t b (suc p) place given).tree (λ a. Done a.1) (given, levels) levels (standing (writer.position w) t.numbers) (standing (writer.position later) (tile_of new).numbers) refl wrote) tile (omega arith) moves
+            (wrote_as coded_in learnt_in {U = U} {E = E} (Ok v) (coeffs_of t b (suc p) place given).tree (λ a. Done a.1) (given, levels) levels (stands writer w old.cw) (stands writer later new.cw) refl wrote) tile (omega arith) moves
 
     pub coeffs_refused : {U E : Type 0} (e : E) → HasWritten {U = U} {E = E} (Err e) plane → tile_of new ≡ with_numbers (tile_of new).numbers (tile_of old) → (r : Result U E) → r ≡ Err e → Writes writer r (Coeffs plane x y given levels) w later old new
     coeffs_refused {U} {E} e wrote tile r err = by_plane plane wrote allowed
@@ -304,4 +303,4 @@ module _ (plane x y : ℕ) (given : TxType) (levels : List ℤ) where
             let t = tile_of old in
             writes_front writer r e err (Coeffs (suc p) x y given levels) (chroma_coeffs_kind t (Some b) (suc p) place given) levels w later old new (2 ^ 20) (ap (λ (o : Option CurrentBlock). steps (chroma_coeffs_kind t o (suc p) place given)) (sym is)) refl
             (subst (λ (o : Option CurrentBlock). first_broken (rules_of (chroma_coeffs_kind t o (suc p) place given) levels) ≡ None) is allowed)
-            (wrote_as coded_by (learnt true) {U = U} {E = E} (Err e) (coeffs_of t b (suc p) place given).tree (λ a. Done a.1) (given, levels) levels (standing (writer.position w) t.numbers) (standing (writer.position later) (tile_of new).numbers) refl wrote) tile (omega arith) moves
+            (wrote_as coded_in learnt_in {U = U} {E = E} (Err e) (coeffs_of t b (suc p) place given).tree (λ a. Done a.1) (given, levels) levels (stands writer w old.cw) (stands writer later new.cw) refl wrote) tile (omega arith) moves

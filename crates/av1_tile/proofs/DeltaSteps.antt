@@ -1,11 +1,11 @@
 -- What the kinds of step for segments and for the deltas of the loop filter bring.
-use Rattle.std.proofs.Common.{◌≡◌, ℕ, zero, suc, ◌+◌, ◌*◌, ◌<◌, ◌≤◌, ◌==◌, ◌&&◌, ℤ, pos, List, [], ◌∷◌, Bool, true, false, Option, Some, None, Result, if◌then◌else◌, length, nat_eq, nat_le, nat_lt, codes, refl, sym, ap, subst, ◌∙◌, arith}
+use Rattle.std.proofs.Common.{◌≡◌, ℕ, zero, suc, ◌+◌, ◌<◌, ◌≤◌, ◌==◌, ◌&&◌, ℤ, pos, List, [], ◌∷◌, Bool, true, false, Some, None, Result, if◌then◌else◌, length, nat_le, nat_lt, codes, refl, sym, ap, subst, ◌∙◌, arith, inl}
 use Rattle.std.proofs.Math.ListN.{get_or-eq_default}
 use Rattle.std.proofs.lemmas.Bool.Decides.{nat_tests}
 use Rattle.av1_blocks.specs.declared.block.Block.{Block}
 use Rattle.av1_blocks.specs.declared.block_context.BlockContext.{BlockContext}
 use Rattle.av1_blocks.specs.Grid.{Grid, IsInside, block_at, over}
-use Rattle.av1_cdf.specs.Distribution.{Distribution, HasSymbols, coded_by, learnt}
+use Rattle.av1_cdf.specs.Distribution.{Distribution}
 use Rattle.av1_frame.specs.declared.state.SegmentationState.{SegmentationState}
 use Rattle.av1_geometry.specs.Cfl.{magnitude}
 use Rattle.av1_geometry.specs.ChromaSampling.{planes_of}
@@ -17,16 +17,18 @@ use Rattle.av1_geometry.specs.Rules.{first_broken}
 use Rattle.av1_model.specs.Comes.{Standing, Begins, Writes, Wrote}
 use Rattle.av1_model.specs.Element.{Element, known, symbol, choose}
 use Rattle.av1_syntax.specs.Calls.{adaptive}
-use Rattle.av1_syntax.specs.Deltas.{delta_at, delta_count, deltas_element, AreDeltas}
+use Rattle.av1_syntax.specs.Deltas.{delta_at, deltas_element, AreDeltas}
 use Rattle.av1_syntax.specs.Segments.{interleaved, deinterleaved, predicted_segment, segment_context, segment_of, segment_element, IsSegment}
 use Rattle.av1_syntax.proofs.DeltaReads.{count_few, deltas_reads, zero_is}
 use Rattle.av1_syntax.proofs.Readings.{segment_reads}
 use Rattle.av1_syntax.proofs.Segments.{predicted_few, segment_skipped}
-use Rattle.av1_tile.specs.DeltaSteps.{IsWhole, are_segments_coded, is_skipped, is_segment, is_delta_at, are_deltas, block_deltas, segment_kind, delta_lf_kind}
+use Rattle.av1_syntax.specs.Calls.{Context, coded_in, learnt_in}
+use Rattle.av1_tile.specs.DeltaSteps.{IsWhole, are_segments_coded, is_skipped, is_delta_at, are_deltas, block_deltas, segment_kind, delta_lf_kind}
 use Rattle.av1_tile.specs.Effect.{Over, changed_by_all}
 use Rattle.av1_tile.specs.Kept.{IsBlock, IsKept}
-use Rattle.av1_tile.specs.Kind.{holds, rules_of, IsKind}
+use Rattle.av1_tile.specs.Kind.{rules_of, IsKind}
 use Rattle.av1_tile.specs.Tile.{Tile, CurrentBlock, place_of_block, size_of_block, sampling, with_numbers}
+use Rattle.av1_tile.proofs.Effects.{still_sound}
 use Rattle.av1_tile.proofs.KindLaws.{kind_reads, none_is}
 use Rattle.av1_tile.proofs.OneBlock.{block_here, taken_back, prediction_stays, context_stays}
 use Rattle.av1_tile.proofs.Places.{all_hold, both, is_at_most}
@@ -78,7 +80,7 @@ segment_is_kind t b h =
     record {
       reads = kind_reads (segment_kind t b) (IsSegment g bo skip last) 1 (omega arith) (λ i asked r. segment_is g bo skip last i (all_hold ((segment_kind t b).answering i) (none_is _ r)).0)
           (λ asked. segment_reads g bo skip last (last_few t.given.fs.segmentation (all_hold (segment_kind t b).asking (none_is _ asked)).1.0));
-      fit = λ i r. let good = segment_allowed t b i (none_is _ r) in ((h, λ x fine. record { mode = fine.mode; segment = good.few }, λ c is x e. e), tt);
+      fit = λ i r. let good = segment_allowed t b i (none_is _ r) in ((h, λ x like fine. record { mode = fine.mode; segment = good.few; sound = still_sound x x.skip x.cdef_index i x.deblock_deltas x.txsize fine.sound }, λ c is x e. e, λ c is. inl (λ x. refl)), tt);
       at_place = λ i. (refl, tt);
     }
 
@@ -88,8 +90,8 @@ element_by skip last r context =
     choose skip (known r) (symbol (adaptive (codes "spatial_segmentation_cdfs") (context ∷ [])) (λ s. if nat_lt s (last + 1) then Some (deinterleaved (last + 1) r s) else None) (interleaved (last + 1) r))
 
 -- nothing is coded of the segment of a skipped block
-pub segment_none : (g : Grid) (bo : BlockOffset) (skip : Bool) (last i : ℕ) (at : Standing (List ℕ)) → skip ≡ true → IsSegment g bo skip last i → Writes coded_by (learnt true) (segment_element g bo skip last).tree i at at
-segment_none g bo true last i at h is = subst (λ n. Writes coded_by (learnt true) (segment_element g bo true last).tree n at at) (sym is) (segment_skipped g bo true last at refl)
+pub segment_none : (g : Grid) (bo : BlockOffset) (skip : Bool) (last i : ℕ) (at : Standing Context) → skip ≡ true → IsSegment g bo skip last i → Writes coded_in learnt_in (segment_element g bo skip last).tree i at at
+segment_none g bo true last i at h is = subst (λ n. Writes coded_in learnt_in (segment_element g bo true last).tree n at at) (sym is) (segment_skipped g bo true last at refl)
 segment_none g bo false last i at h is = absurd cc
 
 -- where a change of a grid was taken back, the edges and the grid are as before
@@ -110,8 +112,8 @@ segment_here g next bo false last i w inside off h is =
     subst (λ n. n ≤ last) (sym entered) h
 
 -- the segment of a block was coded where it had been entered there
-pub segment_as : {U E : Type 0} (r : Result U E) (g next : Grid) (bo : BlockOffset) (skip : Bool) (last i : ℕ) (from to : Standing (List ℕ)) → IsWhole g → IsInside g bo → skip ≡ false → next ≡ over bo BLOCK_4X4 (λ b. record b { segmentation_idx = i }) g →
-    Wrote coded_by (learnt true) r (segment_element next bo false last).tree (segment_of next bo false last) from to → Wrote coded_by (learnt true) r (segment_element g bo skip last).tree i from to
+pub segment_as : {U E : Type 0} (r : Result U E) (g next : Grid) (bo : BlockOffset) (skip : Bool) (last i : ℕ) (from to : Standing Context) → IsWhole g → IsInside g bo → skip ≡ false → next ≡ over bo BLOCK_4X4 (λ b. record b { segmentation_idx = i }) g →
+    Wrote coded_in learnt_in r (segment_element next bo false last).tree (segment_of next bo false last) from to → Wrote coded_in learnt_in r (segment_element g bo skip last).tree i from to
 segment_as r g next bo skip last i from to w inside off is wrote =
     let f = λ (b : Block). record b { segmentation_idx = i } in
     let entered : segment_of next bo false last ≡ i = ap (λ (k : Grid). (block_at k bo.x bo.y).segmentation_idx) is ∙ ap (λ (b : Block). b.segmentation_idx) (block_here g bo w inside f) in
@@ -119,7 +121,7 @@ segment_as r g next bo skip last i from to w inside off is wrote =
     let context : segment_context next bo ≡ segment_context g bo = ap (λ (k : Grid). segment_context k bo) is ∙ context_stays g bo w inside f in
     let element : segment_element next bo false last ≡ segment_element g bo skip last =
     ap (λ n. element_by false last n (segment_context next bo)) predicted ∙ ap (λ n. element_by false last (predicted_segment g bo last) n) context ∙ ap (λ s. segment_element g bo s last) (sym off) in
-    subst (λ (e : Element Distribution ℕ). Wrote coded_by (learnt true) r e.tree i from to) element (subst (λ n. Wrote coded_by (learnt true) r (segment_element next bo false last).tree n from to) entered wrote)
+    subst (λ (e : Element Distribution ℕ). Wrote coded_in learnt_in r e.tree i from to) element (subst (λ n. Wrote coded_in learnt_in r (segment_element next bo false last).tree n from to) entered wrote)
 
 -- sizes and zeros of deltas
 delta_is : (n count k : ℕ) → nat_le n (if nat_lt k count then 63 else 0) ≡ true → (n ≤ 63) × (count ≤ k → n ≡ 0)
@@ -175,7 +177,7 @@ delta_lf_is_kind t b h = record {
   reads = kind_reads (delta_lf_kind t b) (AreDeltas 512 (block_deltas t)) 52 (omega arith)
       (λ ds asked r. deltas_by (block_deltas t) (deltas_few t) ds (all_hold ((delta_lf_kind t b).answering ds) (none_is _ r)).0 512 (omega arith))
       (λ asked. deltas_reads t.given.fs.deblock.block_delta_multi (planes_of (sampling t)) (few_planes (sampling t)).1);
-  fit = λ ds r. ((h, λ x fine. record { mode = fine.mode; segment = fine.segment }, λ c is x e. e), tt);
+  fit = λ ds r. ((h, λ x like fine. record { mode = fine.mode; segment = fine.segment; sound = still_sound x x.skip x.cdef_index x.segmentation_idx ds x.txsize fine.sound }, λ c is x e. e, λ c is. inl (λ x. refl)), tt);
   at_place = λ ds. (refl, tt);
 }
 
@@ -183,17 +185,17 @@ pub planes_are : (cs : ChromaSampling) (n : ℕ) → n ≡ planes_of cs → (1 �
 planes_are cs n e = let f = few_planes cs in (omega (arith, e, f.0), omega (arith, e, f.1))
 
 -- deltas were coded, or begun, by another name of the number of planes
-pub deltas_whole : (multi : Bool) (n planes : ℕ) (ds : List ℤ) (from to : Standing (List ℕ)) → n ≡ planes → Writes coded_by (learnt true) (deltas_element multi n).tree ds from to → Writes coded_by (learnt true) (deltas_element multi planes).tree ds from to
-deltas_whole multi n planes ds from to e w = subst (λ k. Writes coded_by (learnt true) (deltas_element multi k).tree ds from to) e w
+pub deltas_whole : (multi : Bool) (n planes : ℕ) (ds : List ℤ) (from to : Standing Context) → n ≡ planes → Writes coded_in learnt_in (deltas_element multi n).tree ds from to → Writes coded_in learnt_in (deltas_element multi planes).tree ds from to
+deltas_whole multi n planes ds from to e w = subst (λ k. Writes coded_in learnt_in (deltas_element multi k).tree ds from to) e w
 
-pub deltas_front : (multi : Bool) (n planes : ℕ) (ds : List ℤ) (from to : Standing (List ℕ)) → n ≡ planes → Begins coded_by (learnt true) (deltas_element multi n).tree ds from to → Begins coded_by (learnt true) (deltas_element multi planes).tree ds from to
-deltas_front multi n planes ds from to e w = subst (λ k. Begins coded_by (learnt true) (deltas_element multi k).tree ds from to) e w
+pub deltas_front : (multi : Bool) (n planes : ℕ) (ds : List ℤ) (from to : Standing Context) → n ≡ planes → Begins coded_in learnt_in (deltas_element multi n).tree ds from to → Begins coded_in learnt_in (deltas_element multi planes).tree ds from to
+deltas_front multi n planes ds from to e w = subst (λ k. Begins coded_in learnt_in (deltas_element multi k).tree ds from to) e w
 
 -- the deltas of a block, where they had been entered there
 pub deltas_here : (g next : Grid) (bo : BlockOffset) (ds : List ℤ) → IsWhole g → IsInside g bo → next ≡ over bo BLOCK_4X4 (λ b. record b { deblock_deltas = ds }) g → (block_at next bo.x bo.y).deblock_deltas ≡ ds
 deltas_here g next bo ds w inside is =
     ap (λ (k : Grid). (block_at k bo.x bo.y).deblock_deltas) is ∙ ap (λ (b : Block). b.deblock_deltas) (block_here g bo w inside (λ (b : Block). record b { deblock_deltas = ds }))
 
-pub deltas_wrote : {U E : Type 0} (r : Result U E) (multi : Bool) (planes : ℕ) (xs ds : List ℤ) (from to : Standing (List ℕ)) → xs ≡ ds → Wrote coded_by (learnt true) r (deltas_element multi planes).tree xs from to →
-    Wrote coded_by (learnt true) r (deltas_element multi planes).tree ds from to
-deltas_wrote r multi planes xs ds from to e w = subst (λ x. Wrote coded_by (learnt true) r (deltas_element multi planes).tree x from to) e w
+pub deltas_wrote : {U E : Type 0} (r : Result U E) (multi : Bool) (planes : ℕ) (xs ds : List ℤ) (from to : Standing Context) → xs ≡ ds → Wrote coded_in learnt_in r (deltas_element multi planes).tree xs from to →
+    Wrote coded_in learnt_in r (deltas_element multi planes).tree ds from to
+deltas_wrote r multi planes xs ds from to e w = subst (λ x. Wrote coded_in learnt_in r (deltas_element multi planes).tree x from to) e w

@@ -1,17 +1,20 @@
 -- What effects leave as it is, what they keep, and that going back to a mark hides them.
-use Rattle.std.proofs.Common.{◌≡◌, ◌⊎◌, inl, inr, nat_le, ℕ, zero, suc, ◌+◌, ◌-◌, ◌*◌, ◌/◌, ◌%◌, ◌^◌, ◌<◌, ◌≤◌, List, [], ◌∷◌, Bool, true, false, Option, Some, None, IsTrue, length, get_or, nat_eq, nat_lt, min, if◌then◌else◌, refl, sym, ap, subst, ◌∙◌, arith, ◌&&◌}
+use Rattle.std.proofs.Common.{◌≡◌, ◌⊎◌, inl, inr, nat_le, ℕ, ℤ, zero, suc, ◌+◌, ◌-◌, ◌*◌, ◌/◌, ◌%◌, ◌^◌, ◌<◌, ◌≤◌, List, [], ◌∷◌, Bool, true, false, Option, Some, None, IsTrue, length, get_or, nat_eq, nat_lt, min, if◌then◌else◌, refl, sym, ap, subst, ◌∙◌, arith, ◌&&◌}
 use Rattle.std.specs.Option.{ForSome}
 use Rattle.std.proofs.lemmas.Bool.Decides.{nat_tests}
+use Rattle.std.proofs.lemmas.List.{get_or-replicate}
 use Rattle.std.proofs.lemmas.Nat.{div-mul-add, mod-mul-add, mul-add-lt}
 use Rattle.av1_blocks.specs.declared.block.Block.{Block}
 use Rattle.av1_blocks.specs.declared.block.TheConstants.Block.{DEFAULT}
 use Rattle.av1_blocks.specs.declared.block_context.BlockContext.{BlockContext}
+use Rattle.av1_blocks.specs.Block.{is_inter}
 use Rattle.av1_blocks.specs.declared.checkpoint.BlockContextCheckpoint.{BlockContextCheckpoint}
 use Rattle.av1_blocks.specs.Edges.{HasEdges, filled_in, halvings, place_in, planes_coded, with_tx_sides}
 use Rattle.av1_blocks.specs.GoingBack.{IsWithin, gone_back}
 use Rattle.av1_blocks.specs.Grid.{Grid, block_at, covers, over}
 use Rattle.av1_blocks.specs.Places.{changed, filled, sb_column, within}
 use Rattle.av1_blocks.specs.Saved.{Saved}
+use Rattle.av1_blocks.specs.Sound.{IsSound as IsSoundBlock}
 use Rattle.av1_blocks.proofs.GoingBack.{halved_once, hides_over, hides_partition, hides_plane, hides_skip_reset, hides_tx_sides, one_or_two}
 use Rattle.av1_blocks.proofs.Places.{length-changed, get_or-changed}
 use Rattle.av1_frame.specs.declared.frame.FrameInvariants.{FrameInvariants}
@@ -23,12 +26,17 @@ use Rattle.av1_geometry.specs.BlockSize.{width_log2, height_log2, width_mi, heig
 use Rattle.av1_geometry.specs.BlockTables.{max_tx_size}
 use Rattle.av1_geometry.specs.Chroma.{has_chroma_at}
 use Rattle.av1_geometry.specs.ChromaSampling.{xdec_of, ydec_of, planes_of}
+use Rattle.av1_geometry.specs.MotionVector.{IsValid}
+use Rattle.av1_geometry.specs.PredictionMode.{prediction_mode_number}
 use Rattle.av1_geometry.specs.TxSize.{tx_width_log2, tx_height_log2}
+use Rattle.av1_geometry.specs.declared.prediction_mode.PredictionMode.{PredictionMode}
+use Rattle.av1_geometry.specs.declared.tx_size.TxSize.{TxSize}
+use Rattle.av1_mvref.specs.Candidates.{no_vector}
 use Rattle.av1_geometry.specs.declared.block_size.BlockSize.TheVariants.{BLOCK_4X4, BLOCK_4X8, BLOCK_8X4, BLOCK_8X8, BLOCK_8X16, BLOCK_16X8, BLOCK_16X16, BLOCK_16X32, BLOCK_32X16, BLOCK_32X32, BLOCK_32X64, BLOCK_64X32, BLOCK_64X64, BLOCK_64X128, BLOCK_128X64, BLOCK_128X128, BLOCK_4X16, BLOCK_16X4, BLOCK_8X32, BLOCK_32X8, BLOCK_16X64, BLOCK_64X16}
 use Rattle.av1_syntax.specs.TransformSizes.{block_of, entered_split}
-use Rattle.av1_tile.specs.Effect.{Effect, Over, Parted, Unfilled, Transformed, SplitTransform, NewRow, CdefCoded, Become, ChromaMode, Filled, Referred, changed_by, changed_by_all}
+use Rattle.av1_tile.specs.Effect.{Effect, Over, Parted, Unfilled, Transformed, SplitTransform, NewRow, CdefCoded, Become, ChromaMode, Listed, Picked, Filled, Referred, changed_by, changed_by_all}
 use Rattle.av1_tile.specs.Given.{Given}
-use Rattle.av1_tile.specs.Kept.{HasSides, IsBlock, IsEntered, IsFine, IsKept, Fits, AllFit, IsAt, AllAt, current_after}
+use Rattle.av1_tile.specs.Kept.{HasSides, IsBlock, IsEntered, IsFine, IsKept, Fits, AllFit, IsAlike, IsLike, LeavesAlike, IsAt, AllAt}
 use Rattle.av1_tile.specs.Tile.{Tile, CurrentBlock, grid_block, has_chroma_size, new_block, place_of_block, sampling, size_of_block, with_numbers}
 use Rattle.av1_tile.proofs.Planes.{planes_kept}
 use Rattle.av1_tile.proofs.Splitting.{split_blocks, split_long, sides_long, split_keeps, part_within}
@@ -65,32 +73,10 @@ one_same NewRow t = record { numbers = refl; number = refl; learns = refl; given
 one_same (CdefCoded coded) t = record { numbers = refl; number = refl; learns = refl; given = refl; x = refl; y = refl; cols = refl; rows = refl }
 one_same (Become b) t = record { numbers = refl; number = refl; learns = refl; given = refl; x = refl; y = refl; cols = refl; rows = refl }
 one_same (ChromaMode m) t = record { numbers = refl; number = refl; learns = refl; given = refl; x = refl; y = refl; cols = refl; rows = refl }
+one_same (Listed c) t = record { numbers = refl; number = refl; learns = refl; given = refl; x = refl; y = refl; cols = refl; rows = refl }
+one_same (Picked n) t = record { numbers = refl; number = refl; learns = refl; given = refl; x = refl; y = refl; cols = refl; rows = refl }
 one_same (Filled plane bo size entry) t = record { numbers = refl; number = refl; learns = refl; given = refl; x = refl; y = refl; cols = refl; rows = refl }
 one_same (Referred plane filter) t = record { numbers = refl; number = refl; learns = refl; given = refl; x = refl; y = refl; cols = refl; rows = refl }
-
--- the current block after an effect
-one_current : (e : Effect) (t : Tile) → (changed_by e t).current ≡ current_after e t.current
-one_current (Over bo size f) t = refl
-one_current (Parted bo size subsize) t = refl
-one_current (Unfilled bo size) t = refl
-one_current (Transformed bo size width height) t = refl
-one_current (SplitTransform bo size split) t = refl
-one_current NewRow t = refl
-one_current (CdefCoded coded) t = refl
-one_current (Become b) t = refl
-one_current (ChromaMode m) t = refl
-one_current (Filled plane bo size entry) t = refl
-one_current (Referred plane filter) t = refl
-
--- what fits after an effect, by the tile that the effect leaves
-fit_after : (e : Effect) (es : List Effect) (t : Tile) → AllFit t.given.fi t.bc.blocks.cols t.bc.blocks.rows (current_after e t.current) es →
-    let u = changed_by e t in AllFit u.given.fi u.bc.blocks.cols u.bc.blocks.rows u.current es
-fit_after e es t fit =
-    let u = changed_by e t in
-    let one = one_same e t in
-    subst (λ i. AllFit i u.bc.blocks.cols u.bc.blocks.rows u.current es) (sym (ap (λ (g : Given). g.fi) one.given))
-    (subst (λ c. AllFit t.given.fi c u.bc.blocks.rows u.current es) (sym one.cols)
-    (subst (λ r. AllFit t.given.fi t.bc.blocks.cols r u.current es) (sym one.rows) (subst (λ o. AllFit t.given.fi t.bc.blocks.cols t.bc.blocks.rows o es) (sym (one_current e t)) fit)))
 
 pub all_same : (es : List Effect) (t : Tile) → IsSame t (changed_by_all es t)
 all_same [] t = record { numbers = refl; number = refl; learns = refl; given = refl; x = refl; y = refl; cols = refl; rows = refl }
@@ -115,15 +101,18 @@ planes_long test f edges p h long same =
     ap (λ (l : List ℕ). length l) (get_or-changed (λ k x. if test k then f k x else x) edges p [] h)
     ∙ elim (test p) as (λ b. length (if b then f p (get_or edges p []) else get_or edges p []) ≡ 1024) [ true ↦ same p (get_or edges p []) ∙ long | false ↦ long ]
 
+either_fine : (fi : FrameInvariants) (c : Bool) (x y : Block) → (c ≡ true → IsFine fi y) → IsFine fi x → IsFine fi (if c then y else x)
+either_fine fi true x y new old = new refl
+either_fine fi false x y new old = old
+
 -- a change of blocks that are fine keeps them so
-all_fine : (fi : FrameInvariants) (test : ℕ → Bool) (f : Block → Block) (blocks : List Block) → ((b : Block) → IsFine fi b → IsFine fi (f b)) →
+all_fine : (fi : FrameInvariants) (test : ℕ → Bool) (f : Block → Block) (blocks : List Block) →
+    ((k : ℕ) → k < length blocks → test k ≡ true → IsFine fi (get_or blocks k DEFAULT) → IsFine fi (f (get_or blocks k DEFAULT))) →
     ((k : ℕ) → k < length blocks → IsFine fi (get_or blocks k DEFAULT)) → (k : ℕ) → k < length (changed (λ j b. if test j then f b else b) blocks) → IsFine fi (get_or (changed (λ j b. if test j then f b else b) blocks) k DEFAULT)
 all_fine fi test f blocks keeps fine k h =
     let there : k < length blocks = omega (arith, h, length-changed (λ j b. if test j then f b else b) blocks) in
-    let was = fine k there in
-    let now : IsFine fi (if test k then f (get_or blocks k DEFAULT) else get_or blocks k DEFAULT) =
-    elim (test k) as (λ b. IsFine fi (if b then f (get_or blocks k DEFAULT) else get_or blocks k DEFAULT)) [ true ↦ keeps (get_or blocks k DEFAULT) was | false ↦ was ] in
-    subst (IsFine fi) (sym (get_or-changed (λ j b. if test j then f b else b) blocks k DEFAULT there)) now
+    let x = get_or blocks k DEFAULT in
+    subst (IsFine fi) (sym (get_or-changed (λ j b. if test j then f b else b) blocks k DEFAULT there)) (either_fine fi (test k) x (f x) (λ c. keeps k there c (fine k there)) (fine k there))
 
 power_some : (n : ℕ) → n ≤ 4 → 1 ≤ 2 ^ n
 power_some zero h = omega arith
@@ -168,9 +157,56 @@ largest_sides BLOCK_32X8 = (refl, refl)
 largest_sides BLOCK_16X64 = (refl, refl)
 largest_sides BLOCK_64X16 = (refl, refl)
 
+-- what stands where nothing refers to another frame
+pub no_vector_valid : IsValid no_vector
+no_vector_valid = (omega arith, omega arith, omega arith, omega arith)
+
+pub no_counts : (k : ℕ) → k < 7 → get_or DEFAULT.neighbors_ref_counts k 0 ≤ 4
+no_counts k h = subst (λ n. n ≤ 4) (sym (get_or-replicate 7 k 0 0 h)) (omega arith)
+
+-- a block stays sound where nothing changes that is asked of it
+pub still_sound : (x : Block) (skip : Bool) (index segment : ℕ) (deltas : List ℤ) (tx : TxSize) → IsSoundBlock x →
+    IsSoundBlock (record x { skip = skip; cdef_index = index; segmentation_idx = segment; deblock_deltas = deltas; txsize = tx })
+still_sound x skip index segment deltas tx s = record {
+  width = s.width;
+  height = s.height;
+  first_valid = s.first_valid;
+  second_valid = s.second_valid;
+  counts = s.counts;
+  refers = s.refers;
+  refers_within = s.refers_within;
+}
+
+-- a block that gets a mode of luma is no inter block
+pub sound_within : (x : Block) (m : PredictionMode) → prediction_mode_number m < 13 → IsSoundBlock x → IsSoundBlock (record x { mode = m })
+sound_within x m low s = record {
+  width = s.width;
+  height = s.height;
+  first_valid = s.first_valid;
+  second_valid = s.second_valid;
+  counts = s.counts;
+  refers = λ h. absurd (grind (arith, nat_tests, low, h));
+  refers_within = λ h. absurd (grind (arith, nat_tests, low, h));
+}
+
+pub never : false ≡ true → ⊥
+never h = cc
+
 -- what a block gets is fine, and is what stands where its size was entered
 new_fine : (fi : FrameInvariants) (size : BlockSize) → IsFine fi (new_block size)
-new_fine fi size = record { mode = λ h. omega arith; segment = omega arith }
+new_fine fi size = record {
+  mode = λ h. omega arith;
+  segment = omega arith;
+  sound = record {
+    width = refl;
+    height = refl;
+    first_valid = no_vector_valid;
+    second_valid = no_vector_valid;
+    counts = no_counts;
+    refers = λ h. absurd (never h);
+    refers_within = λ h. absurd (never h);
+  };
+}
 
 new_entered : (size : BlockSize) → IsEntered size (new_block size)
 new_entered size = (refl, refl, refl, omega (arith, (largest_sides size).0), omega (arith, (largest_sides size).1))
@@ -200,6 +236,55 @@ covers_first g bo size across column row wide high =
     ∙ ap (λ n. within x right x && within y bottom n) (div-mul-add y cols x across)
     ∙ and_true _ _ (within_self x right (omega (arith, column, wide))) (within_self y bottom (omega (arith, row, high)))
 
+-- a place of the area of a change is one of the area of a block that it is the area of
+same_area : (g : Grid) (bo : BlockOffset) (size : BlockSize) (b : CurrentBlock) (k : ℕ) → bo ≡ place_of_block b → size ≡ size_of_block b → covers g bo size k ≡ true → covers g (place_of_block b) (size_of_block b) k ≡ true
+same_area g bo size b k place is covered = ap (λ (o : BlockOffset). covers g o (size_of_block b) k) (sym place) ∙ ap (λ (s : BlockSize). covers g bo s k) (sym is) ∙ covered
+
+-- a change over the whole area of a block that says alike whether blocks are predicted from other frames
+whole_alike : (t : Tile) (b : CurrentBlock) (f : Block → Block) → HasSides t → IsBlock t.bc.blocks.cols t.bc.blocks.rows (place_of_block b) (size_of_block b) → ((x y : Block) → is_inter (f x) ≡ is_inter (f y)) →
+    IsAlike (changed_by (Over (place_of_block b) (size_of_block b) f) t) b
+whole_alike t b f sides at same k h covered =
+    let g = t.bc.blocks in
+    let bo = place_of_block b in
+    let size = size_of_block b in
+    let step = λ (j : ℕ) (x : Block). if covers g bo size j then f x else x in
+    let there : k < length g.frame.blocks = omega (arith, h, length-changed step g.frame.blocks) in
+    let first = place_there t sides bo.x bo.y at.column at.row in
+    let x = get_or g.frame.blocks k DEFAULT in
+    let y = grid_block t b in
+    let all = covers_first g bo size first.0 at.column at.row (power_some (width_log2 size - 2) (omega (arith, at.width))) (power_some (height_log2 size - 2) (omega (arith, at.height))) in
+    ap is_inter (get_or-changed step g.frame.blocks k DEFAULT there ∙ ap (λ c. if c then f x else x) covered)
+    ∙ same x y
+    ∙ sym (ap is_inter (get_or-changed step g.frame.blocks _ DEFAULT first.1 ∙ ap (λ c. if c then f y else y) all))
+
+either_alike : (c : Bool) (f : Block → Block) (x : Block) → ((y : Block) → is_inter (f y) ≡ is_inter y) → is_inter (if c then f x else x) ≡ is_inter x
+either_alike true f x leaves = leaves x
+either_alike false f x leaves = refl
+
+-- a change over the current block says alike whether blocks are predicted from other frames
+pub says_alike : (t : Tile) (b : CurrentBlock) (f : Block → Block) → t.current ≡ Some b → ((x y : Block) → is_inter (f x) ≡ is_inter (f y)) → ForSome t.current (λ c. LeavesAlike c (place_of_block b) (size_of_block b) f)
+says_alike t b f e same c is = let one : b ≡ c = cc (e, is) in inr (ap place_of_block one, ap size_of_block one, same)
+
+-- a change that leaves of each block whether it is predicted from other frames
+still_alike : (t : Tile) (b : CurrentBlock) (bo : BlockOffset) (size : BlockSize) (f : Block → Block) → HasSides t → IsBlock t.bc.blocks.cols t.bc.blocks.rows (place_of_block b) (size_of_block b) → ((x : Block) → is_inter (f x) ≡ is_inter x) → IsAlike t b →
+    IsAlike (changed_by (Over bo size f) t) b
+still_alike t b bo size f sides at leaves alike k h covered =
+    let g = t.bc.blocks in
+    let step = λ (j : ℕ) (x : Block). if covers g bo size j then f x else x in
+    let there : k < length g.frame.blocks = omega (arith, h, length-changed step g.frame.blocks) in
+    let first = place_there t sides (place_of_block b).x (place_of_block b).y at.column at.row in
+    ap is_inter (get_or-changed step g.frame.blocks k DEFAULT there)
+    ∙ either_alike (covers g bo size k) f _ leaves
+    ∙ alike k there covered
+    ∙ sym (ap is_inter (get_or-changed step g.frame.blocks _ DEFAULT first.1) ∙ either_alike _ f _ leaves)
+
+-- a change leaves the blocks of an area alike
+alike_over : (t : Tile) (b : CurrentBlock) (bo : BlockOffset) (size : BlockSize) (f : Block → Block) → HasSides t → IsBlock t.bc.blocks.cols t.bc.blocks.rows (place_of_block b) (size_of_block b) → LeavesAlike b bo size f → IsAlike t b →
+    IsAlike (changed_by (Over bo size f) t) b
+alike_over t b bo size f sides at (inl leaves) alike = still_alike t b bo size f sides at leaves alike
+alike_over t b bo size f sides at (inr (place, is, same)) alike =
+    subst (λ (o : BlockOffset). IsAlike (changed_by (Over o size f) t) b) (sym place) (subst (λ (s : BlockSize). IsAlike (changed_by (Over (place_of_block b) s f) t) b) (sym is) (whole_alike t b f sides at same))
+
 -- other edges of their lengths, and the same grid
 edges_kept : (t : Tile) (bc : BlockContext) → HasEdges bc → bc.blocks ≡ t.bc.blocks → IsKept t → IsKept (record t { bc = bc })
 edges_kept t bc long same k = record {
@@ -219,11 +304,15 @@ edges_kept t bc long same k = record {
   current = subst (λ (g : Grid). ForSome t.current (λ (b : CurrentBlock). IsBlock g.cols g.rows b.0.0 b.1)) (sym same) k.current;
   coded = k.coded;
   entered = λ b e. subst (λ (g : Grid). IsEntered (size_of_block b) (block_at g (place_of_block b).x (place_of_block b).y)) (sym same) (k.entered b e);
+  alike = λ b e.
+      subst (λ (g : Grid). (j : ℕ) → j < length g.frame.blocks → covers g (place_of_block b) (size_of_block b) j ≡ true → is_inter (get_or g.frame.blocks j DEFAULT) ≡ is_inter (block_at g (place_of_block b).x (place_of_block b).y))
+      (sym same) (k.alike b e);
   fine = subst (λ (g : Grid). (j : ℕ) → j < length g.frame.blocks → IsFine t.given.fi (get_or g.frame.blocks j DEFAULT)) (sym same) k.fine;
   planes = k.planes;
+  cands = k.cands;
 }
 
-one_kept : (e : Effect) (t : Tile) → Fits t.given.fi t.bc.blocks.cols t.bc.blocks.rows t.current e → IsKept t → IsKept (changed_by e t)
+one_kept : (e : Effect) (t : Tile) → Fits t e → IsKept t → IsKept (changed_by e t)
 one_kept (Over bo size f) t fit k = record {
   given = k.given;
   number = k.number;
@@ -234,8 +323,10 @@ one_kept (Over bo size f) t fit k = record {
   entered = λ b e.
       let at = k.current b e in
       entered_over (size_of_block b) (covers t.bc.blocks bo size) f t.bc.blocks.frame.blocks _ (place_there t k.sides (place_of_block b).x (place_of_block b).y at.column at.row).1 (fit.2 b e) (k.entered b e);
-  fine = all_fine t.given.fi (covers t.bc.blocks bo size) f t.bc.blocks.frame.blocks fit.1 k.fine;
+  alike = λ b e. alike_over t b bo size f k.sides (k.current b e) (fit.3 b e) (k.alike b e);
+  fine = all_fine t.given.fi (covers t.bc.blocks bo size) f t.bc.blocks.frame.blocks (λ j h covered. fit.1 _ (λ b e place is. k.alike b e j h (same_area t.bc.blocks bo size b j place is covered))) k.fine;
   planes = k.planes;
+  cands = k.cands;
 }
 one_kept (Parted bo size subsize) t fit k = record {
   given = k.given;
@@ -245,8 +336,10 @@ one_kept (Parted bo size subsize) t fit k = record {
   current = k.current;
   coded = k.coded;
   entered = k.entered;
+  alike = k.alike;
   fine = k.fine;
   planes = k.planes;
+  cands = k.cands;
 }
 one_kept (Unfilled bo size) t fit k =
     let xdec = xdec_of (sampling t) in
@@ -265,8 +358,10 @@ one_kept (Unfilled bo size) t fit k =
       current = k.current;
       coded = k.coded;
       entered = k.entered;
+      alike = k.alike;
       fine = k.fine;
       planes = k.planes;
+      cands = k.cands;
     }
 one_kept (Transformed bo size width height) t fit k = edges_kept t (with_tx_sides bo size width height t.bc) (sides_long bo size width height t.bc k.edges) refl k
 one_kept (SplitTransform bo size split) t fit k =
@@ -279,8 +374,10 @@ one_kept NewRow t fit k = record {
   current = k.current;
   coded = k.coded;
   entered = k.entered;
+  alike = k.alike;
   fine = k.fine;
   planes = k.planes;
+  cands = k.cands;
 }
 one_kept (CdefCoded coded) t fit k = record {
   given = k.given;
@@ -290,8 +387,10 @@ one_kept (CdefCoded coded) t fit k = record {
   current = k.current;
   coded = k.coded;
   entered = k.entered;
+  alike = k.alike;
   fine = k.fine;
   planes = k.planes;
+  cands = k.cands;
 }
 one_kept (Become b) t fit k =
     let g = t.bc.blocks in
@@ -312,8 +411,10 @@ one_kept (Become b) t fit k =
       current = λ c e. subst (λ (x : CurrentBlock). IsBlock t.bc.blocks.cols t.bc.blocks.rows x.0.0 x.1) (let same : b ≡ c = cc e in same) fit.0;
       coded = λ c e. subst (λ (x : CurrentBlock). has_chroma_size (sampling t) (size_of_block x) ≡ true) (let same : b ≡ c = cc e in same) fit.1;
       entered = λ c e. subst (λ (x : CurrentBlock). IsEntered (size_of_block x) (grid_block u x)) (let same : b ≡ c = cc e in same) now;
-      fine = all_fine t.given.fi (covers g bo size) (λ x. new_block size) g.frame.blocks (λ x f. new_fine t.given.fi size) k.fine;
+      alike = λ c e. subst (λ (x : CurrentBlock). IsAlike u x) (let same : b ≡ c = cc e in same) (whole_alike t b (λ x. new_block size) k.sides at (λ x y. refl));
+      fine = all_fine t.given.fi (covers g bo size) (λ x. new_block size) g.frame.blocks (λ j h covered was. new_fine t.given.fi size) k.fine;
       planes = k.planes;
+      cands = λ c e. cc;
     }
 one_kept (ChromaMode m) t fit k = record {
   given = k.given;
@@ -323,8 +424,36 @@ one_kept (ChromaMode m) t fit k = record {
   current = k.current;
   coded = k.coded;
   entered = k.entered;
+  alike = k.alike;
   fine = k.fine;
   planes = k.planes;
+  cands = k.cands;
+}
+one_kept (Listed c) t fit k = record {
+  given = k.given;
+  number = k.number;
+  sides = record { cols = k.sides.cols; rows = k.sides.rows; corner = k.sides.corner; all = k.sides.all; frame = k.sides.frame };
+  edges = record { above_partition = k.edges.above_partition; above_tx = k.edges.above_tx; above_planes = k.edges.above_planes; above_coeff = k.edges.above_coeff };
+  current = k.current;
+  coded = k.coded;
+  entered = k.entered;
+  alike = k.alike;
+  fine = k.fine;
+  planes = k.planes;
+  cands = fit;
+}
+one_kept (Picked n) t fit k = record {
+  given = k.given;
+  number = k.number;
+  sides = record { cols = k.sides.cols; rows = k.sides.rows; corner = k.sides.corner; all = k.sides.all; frame = k.sides.frame };
+  edges = record { above_partition = k.edges.above_partition; above_tx = k.edges.above_tx; above_planes = k.edges.above_planes; above_coeff = k.edges.above_coeff };
+  current = k.current;
+  coded = k.coded;
+  entered = k.entered;
+  alike = k.alike;
+  fine = k.fine;
+  planes = k.planes;
+  cands = k.cands;
 }
 one_kept (Filled plane bo size entry) t fit k =
     let across = halvings (xdec_of (sampling t)) plane in
@@ -343,8 +472,10 @@ one_kept (Filled plane bo size entry) t fit k =
       current = k.current;
       coded = k.coded;
       entered = k.entered;
+      alike = k.alike;
       fine = k.fine;
       planes = k.planes;
+      cands = k.cands;
     }
 one_kept (Referred plane filter) t fit k = record {
   given = k.given;
@@ -354,14 +485,16 @@ one_kept (Referred plane filter) t fit k = record {
   current = k.current;
   coded = k.coded;
   entered = k.entered;
+  alike = k.alike;
   fine = k.fine;
   planes = planes_kept t.given.fs t.rs plane fit.1 filter fit.0 fit.2 k.planes;
+  cands = k.cands;
 }
 
 -- effects that fit keep what every state keeps
-pub all_kept : (es : List Effect) (t : Tile) → AllFit t.given.fi t.bc.blocks.cols t.bc.blocks.rows t.current es → IsKept t → IsKept (changed_by_all es t)
+pub all_kept : (es : List Effect) (t : Tile) → AllFit t es → IsKept t → IsKept (changed_by_all es t)
 all_kept [] t fit k = k
-all_kept (e ∷ es) t fit k = all_kept es (changed_by e t) (fit_after e es t fit.1) (one_kept e t fit.0 k)
+all_kept (e ∷ es) t fit k = all_kept es (changed_by e t) fit.1 (one_kept e t fit.0 k)
 
 -- other numbers keep it too
 pub numbers_kept : (ns : List ℕ) (t : Tile) → IsKept t → IsKept (with_numbers ns t)
@@ -373,8 +506,10 @@ numbers_kept ns t k = record {
   current = k.current;
   coded = k.coded;
   entered = k.entered;
+  alike = k.alike;
   fine = k.fine;
   planes = k.planes;
+  cands = k.cands;
 }
 
 -- effects at a place leave what restoration filters refer to
@@ -432,7 +567,7 @@ module _ (c : BlockContextCheckpoint) (s : Saved) (place : BlockOffset) (column 
       (subst (λ k. IsWithin k bo.y (height_mi size)) (sym y) (side_within (height_log2 size) bo.y place.y b.height b.aligned.1 n.row))
 
   -- going back to a mark hides an effect in its superblock
-  one_hidden : (e : Effect) (at : Option BlockOffset) (t : Tile) → Fits t.given.fi t.bc.blocks.cols t.bc.blocks.rows t.current e → IsAt at e → ForSome at (IsNear place.x place.y) → c.chroma_sampling ≡ sampling t →
+  one_hidden : (e : Effect) (at : Option BlockOffset) (t : Tile) → Fits t e → IsAt at e → ForSome at (IsNear place.x place.y) → c.chroma_sampling ≡ sampling t →
       gone_back c s (changed_by e t).bc ≡ gone_back c s t.bc
   one_hidden (Over bo size f) at t fit is near cs = over_hidden bo size f t fit.0 (near bo is)
   one_hidden (Parted bo size subsize) at t fit is near cs = hides_partition c s bo subsize size t.bc (within_column t bo size fit (near bo is))
@@ -453,6 +588,8 @@ module _ (c : BlockContextCheckpoint) (s : Saved) (place : BlockOffset) (column 
   one_hidden (CdefCoded coded) at t fit is near cs = refl
   one_hidden (Become b) at t fit is near cs = over_hidden (place_of_block b) (size_of_block b) (λ x. new_block (size_of_block b)) t fit.0 (near (place_of_block b) is)
   one_hidden (ChromaMode m) at t fit is near cs = refl
+  one_hidden (Listed c) at t fit is near cs = refl
+  one_hidden (Picked n) at t fit is near cs = refl
   one_hidden (Filled plane bo size entry) at t fit is near cs =
       let dec = xdec_of (sampling t) in
       let h = 2 ^ halvings dec plane in
@@ -462,8 +599,8 @@ module _ (c : BlockContextCheckpoint) (s : Saved) (place : BlockOffset) (column 
       hides_plane c s plane (bo.x / h) (2 ^ (tx_width_log2 size - 2)) (bo.y % 16 / 2 ^ halvings (ydec_of (sampling t)) plane) (2 ^ (tx_height_log2 size - 2)) entry t.bc (subst (λ (k : ChromaSampling). plane < planes_of k) (sym cs) fit.plane_is) (omega (arith, first, inside.0)) (omega (arith, first, inside.1))
   one_hidden (Referred plane filter) at t fit is near cs = refl
 
-  pub all_hidden : (es : List Effect) (at : Option BlockOffset) (t : Tile) → AllFit t.given.fi t.bc.blocks.cols t.bc.blocks.rows t.current es → AllAt at es → ForSome at (IsNear place.x place.y) → c.chroma_sampling ≡ sampling t →
+  pub all_hidden : (es : List Effect) (at : Option BlockOffset) (t : Tile) → AllFit t es → AllAt at es → ForSome at (IsNear place.x place.y) → c.chroma_sampling ≡ sampling t →
       gone_back c s (changed_by_all es t).bc ≡ gone_back c s t.bc
   all_hidden [] at t fit is near cs = refl
   all_hidden (e ∷ es) at t fit is near cs =
-      all_hidden es at (changed_by e t) (fit_after e es t fit.1) is.1 near (cs ∙ sym (ap (λ (g : Given). g.fi.sequence.chroma_sampling) (one_same e t).given)) ∙ one_hidden e at t fit.0 is.0 near cs
+      all_hidden es at (changed_by e t) fit.1 is.1 near (cs ∙ sym (ap (λ (g : Given). g.fi.sequence.chroma_sampling) (one_same e t).given)) ∙ one_hidden e at t fit.0 is.0 near cs

@@ -1,5 +1,5 @@
 -- What the kinds of step for filters, segments and palettes bring.
-use Rattle.std.proofs.Common.{◌≡◌, ℕ, ◌+◌, ◌^◌, ◌<◌, ◌≤◌, ◌++◌, ◌&&◌, [], ◌∷◌, Bool, true, false, not, None, nat_lt, nat_le, refl, arith}
+use Rattle.std.proofs.Common.{◌≡◌, ℕ, ◌+◌, ◌^◌, ◌<◌, ◌≤◌, ◌++◌, ◌&&◌, [], ◌∷◌, Bool, true, false, not, None, nat_lt, nat_le, refl, arith, inl}
 use Rattle.std.specs.Option.{option_map_or}
 use Rattle.std.proofs.lemmas.Bool.Decides.{nat_tests}
 use Rattle.av1_cdf.specs.Distribution.{HasSymbols}
@@ -22,6 +22,7 @@ use Rattle.av1_tile.specs.Given.{IsGiven}
 use Rattle.av1_tile.specs.Kept.{IsBlock, IsKept}
 use Rattle.av1_tile.specs.Kind.{holds, rules_of, IsKind}
 use Rattle.av1_tile.specs.Tile.{Tile, CurrentBlock, place_of_block, size_of_block}
+use Rattle.av1_tile.proofs.Effects.{still_sound}
 use Rattle.av1_tile.proofs.KindLaws.{kind_reads, none_is}
 use Rattle.av1_tile.proofs.Places.{AllHold, all_hold, later_hold, both, is_at_most}
 
@@ -62,7 +63,7 @@ cdef_is_kind t b k h =
     record {
       reads = kind_reads (cdef_kind t b) (λ i. i < 2 ^ t.given.fi.cdef_bits) 3 (omega arith) (λ i g r. below i _ (all_hold ((cdef_kind t b).answering i) (none_is _ r)).0)
           (λ g. literal_reads t.given.fi.cdef_bits 3 (few g));
-      fit = λ i g. ((h, λ x fine. record { mode = fine.mode; segment = fine.segment }, λ c is x e. e), (tt, tt));
+      fit = λ i g. ((h, λ x like fine. record { mode = fine.mode; segment = fine.segment; sound = still_sound x x.skip i x.segmentation_idx x.deblock_deltas x.txsize fine.sound }, λ c is x e. e, λ c is. inl (λ x. refl)), (tt, tt));
       at_place = λ i. (refl, (tt, tt));
     }
 

@@ -21,10 +21,18 @@ use Rattle.av1_tile.specs.State.{tile_of}
 use Rattle.av1_tile.specs.Tile.{fresh}
 use Rattle.av1_tile.specs.TileBytes.{started, begin, numbers_of}
 use Rattle.av1_tile.proofs.Coded.{coded_none}
+use Rattle.av1_tile.proofs.Effects.{never, no_counts, no_vector_valid}
 use Rattle.av1_tile.proofs.Planes.{first_fit}
 
 planes_fresh : (p : ℕ) → p < 3 → length {A = ℕ} (get_or (replicate 3 (replicate 1024 0)) p []) ≡ 1024
 planes_fresh p h = ap (λ (l : List ℕ). length l) (get_or-replicate 3 p (replicate 1024 0) [] h) ∙ length-replicate {A = ℕ} 1024 0
+
+default_fine : (fi : FrameInvariants) → IsFine fi DEFAULT
+default_fine fi = record {
+  mode = λ intra. omega arith;
+  segment = omega arith;
+  sound = record { width = refl; height = refl; first_valid = no_vector_valid; second_valid = no_vector_valid; counts = no_counts; refers = λ h. absurd (never h); refers_within = λ h. absurd (never h) };
+}
 
 pub fresh_kept : (g : Given) (k : ℕ) (numbers : List ℕ) → IsGiven g → k < tile_count g.fi → IsKept (fresh g k numbers)
 fresh_kept g k numbers given number =
@@ -37,8 +45,10 @@ fresh_kept g k numbers given number =
       current = λ b e. cc;
       coded = λ b e. cc;
       entered = λ b e. cc;
-      fine = λ i h. subst (IsFine g.fi) (sym (get_or-replicate n i DEFAULT DEFAULT (subst (λ m. i < m) (length-replicate n DEFAULT) h))) (record { mode = λ intra. omega arith; segment = omega arith });
+      alike = λ b e. cc;
+      fine = λ i h. subst (IsFine g.fi) (sym (get_or-replicate n i DEFAULT DEFAULT (subst (λ m. i < m) (length-replicate n DEFAULT) h))) (default_fine g.fi);
       planes = first_fit g.fs;
+      cands = λ c e. cc;
     }
 
 pub fresh_sound : (g : Given) (k : ℕ) → IsGiven g → k < tile_count g.fi → AreCdfs (numbers_of g) → IsSound (begin g k)

@@ -14,7 +14,7 @@ use Rattle.av1_tile.specs.IntraSteps.{mode_at, is_intra, gets_mode, intra_mode_k
 use Rattle.av1_tile.specs.Kept.{HasSides, IsBlock, IsFine, IsKept}
 use Rattle.av1_tile.specs.Kind.{holds, rules_of, IsKind}
 use Rattle.av1_tile.specs.Tile.{Tile, CurrentBlock, place_of_block, size_of_block, with_numbers}
-use Rattle.av1_tile.proofs.Effects.{place_there}
+use Rattle.av1_tile.proofs.Effects.{place_there, says_alike, sound_within}
 use Rattle.av1_tile.proofs.KindLaws.{kind_reads, none_is, asking_holds, answering_holds}
 use Rattle.av1_tile.proofs.Places.{all_hold}
 
@@ -45,11 +45,13 @@ mode_entered t b m ns bc g same entered =
 pub intra_mode_kf_allowed : (t : Tile) (b : CurrentBlock) (m : PredictionMode) → first_broken (rules_of (intra_mode_kf_kind t b) m) ≡ None → (t.given.fi.intra_only ≡ true) × (prediction_mode_number m < 13)
 intra_mode_kf_allowed t b m h = let all = all_hold (rules_of (intra_mode_kf_kind t b) m) h in (all.1.0, is_less _ _ all.1.1.1.0)
 
-pub intra_mode_kf_is_kind : (t : Tile) (b : CurrentBlock) → IsBlock t.bc.blocks.cols t.bc.blocks.rows (place_of_block b) (size_of_block b) → IsKind t (intra_mode_kf_kind t b)
-intra_mode_kf_is_kind t b s = record {
+pub intra_mode_kf_is_kind : (t : Tile) (b : CurrentBlock) → t.current ≡ Some b → IsBlock t.bc.blocks.cols t.bc.blocks.rows (place_of_block b) (size_of_block b) → IsKind t (intra_mode_kf_kind t b)
+intra_mode_kf_is_kind t b e s = record {
   reads = kind_reads (intra_mode_kf_kind t b) (λ m. prediction_mode_number m < 13) 1 (omega arith) (λ m h g. is_less _ _ (all_hold ((intra_mode_kf_kind t b).answering m) (none_is _ g)).0)
       (λ h. intra_mode_kf_reads t.bc.blocks (place_of_block b));
-  fit = λ m h. let low = (intra_mode_kf_allowed t b m (none_is _ h)).1 in ((s, λ x fine. record { mode = λ intra. low; segment = fine.segment }, λ c is x e. e), tt);
+  fit = λ m h.
+      let low = (intra_mode_kf_allowed t b m (none_is _ h)).1 in
+      ((s, λ x like fine. record { mode = λ intra. low; segment = fine.segment; sound = sound_within x m low fine.sound }, λ c is x e. e, says_alike t b (λ x. record x { mode = m }) e (λ x y. refl)), tt);
   at_place = λ m. (refl, tt);
 }
 
@@ -57,11 +59,13 @@ intra_mode_kf_is_kind t b s = record {
 pub intra_mode_allowed : (t : Tile) (b : CurrentBlock) (m : PredictionMode) → first_broken (rules_of (intra_mode_kind t b) m) ≡ None → prediction_mode_number m < 13
 intra_mode_allowed t b m h = let all = all_hold (rules_of (intra_mode_kind t b) m) h in is_less _ _ all.1.1.1.0
 
-pub intra_mode_is_kind : (t : Tile) (b : CurrentBlock) → IsBlock t.bc.blocks.cols t.bc.blocks.rows (place_of_block b) (size_of_block b) → IsKind t (intra_mode_kind t b)
-intra_mode_is_kind t b s = record {
+pub intra_mode_is_kind : (t : Tile) (b : CurrentBlock) → t.current ≡ Some b → IsBlock t.bc.blocks.cols t.bc.blocks.rows (place_of_block b) (size_of_block b) → IsKind t (intra_mode_kind t b)
+intra_mode_is_kind t b e s = record {
   reads = kind_reads (intra_mode_kind t b) (λ m. prediction_mode_number m < 13) 1 (omega arith) (λ m h g. is_less _ _ (all_hold ((intra_mode_kind t b).answering m) (none_is _ g)).0)
       (λ h. intra_mode_reads (size_of_block b));
-  fit = λ m h. let low = intra_mode_allowed t b m (none_is _ h) in ((s, λ x fine. record { mode = λ intra. low; segment = fine.segment }, λ c is x e. e), tt);
+  fit = λ m h.
+      let low = intra_mode_allowed t b m (none_is _ h) in
+      ((s, λ x like fine. record { mode = λ intra. low; segment = fine.segment; sound = sound_within x m low fine.sound }, λ c is x e. e, says_alike t b (λ x. record x { mode = m }) e (λ x y. refl)), tt);
   at_place = λ m. (refl, tt);
 }
 

@@ -1,5 +1,5 @@
 -- What each item does to the marks.
-use Rattle.std.proofs.Common.{◌≡◌, ◌⊎◌, inl, inr, ℕ, ◌*◌, ◌/◌, ◌≤◌, IsTrue, List, [], ◌∷◌, ◌++◌, Bool, Option, None, Result, Ok, Err, All, true, false, length, ◌<◌, refl, sym, ◌∙◌, ap, subst, arith}
+use Rattle.std.proofs.Common.{◌≡◌, inl, inr, ℕ, ◌*◌, ◌/◌, ◌≤◌, IsTrue, List, [], ◌∷◌, ◌++◌, Bool, None, Ok, Err, All, true, false, length, ◌<◌, refl, sym, ◌∙◌, ap, subst, arith}
 use Rattle.std.specs.Option.{ForSome}
 use Rattle.std.proofs.lemmas.List.Elements.{All-cons, All-nil}
 use Rattle.av1_blocks.specs.declared.block_context.BlockContext.{BlockContext}
@@ -8,15 +8,13 @@ use Rattle.av1_cdf.specs.Context.{AreCdfs}
 use Rattle.av1_cdf.specs.Distribution.{Distribution, coded_by, learnt}
 use Rattle.av1_cdf.specs.Log.{IsReached as HasSaves, IsWithin, KeepsUndone, undone}
 use Rattle.av1_cdf.specs.declared.log.CDFContextCheckpoint.{CDFContextCheckpoint}
-use Rattle.av1_ec.specs.Checkpoint.{reach}
 use Rattle.av1_ec.specs.Rate.{tell_frac_at}
 use Rattle.av1_ec.specs.Storing.{Keeps}
 use Rattle.av1_ec.specs.declared.known.Known.{Ghosts}
 use Rattle.av1_ec.proofs.OneRate.{frac_rises}
-use Rattle.av1_geometry.specs.declared.block_offset.BlockOffset.{BlockOffset}
 use Rattle.av1_geometry.specs.declared.block_offset.TileBlockOffset.{TileBlockOffset}
 use Rattle.av1_model.specs.Comes.{Standing, standing, Comes, Writes, Begins}
-use Rattle.av1_model.specs.Interval.{IsInterval, IsToken, Token}
+use Rattle.av1_model.specs.Interval.{IsInterval, IsToken}
 use Rattle.av1_model.specs.Paths.{tokens_along}
 use Rattle.av1_model.specs.Position.{Position, advance_all, interval_of}
 use Rattle.av1_model.specs.Reading.{Fits}
@@ -32,13 +30,14 @@ use Rattle.av1_tile.specs.Given.{Given}
 use Rattle.av1_tile.specs.Items.{IsNearLast, Steps}
 use Rattle.av1_tile.specs.Kept.{IsKept}
 use Rattle.av1_tile.specs.Marks.{back_to, IsOfTile, IsMarkOf, WentBack, IsBefore, CanGoBack, AreMarks, StandsStill, AllStandStill}
+use Rattle.av1_tile.specs.Place.{candidates_in}
 use Rattle.av1_tile.specs.State.{tile_of, log_of}
 use Rattle.av1_tile.specs.Step.{effects_of, entered, is_untried, question_of, syntax_of}
 use Rattle.av1_tile.specs.Tile.{Tile, with_numbers}
 use Rattle.av1_tile.specs.Trials.{place_of, same_superblock}
 use Rattle.av1_tile.proofs.AllBack.{back_again}
-use Rattle.av1_tile.proofs.Effects.{IsNear, all_hidden, all_same}
-use Rattle.av1_tile.proofs.Marks.{last_one, none_last, none_or_last, same_of, same_back, same_trans, AllBefore, before_self, before_with, marks_split, marks_joined, marks_carried, mark_carried}
+use Rattle.av1_tile.proofs.Effects.{all_hidden, all_same}
+use Rattle.av1_tile.proofs.Marks.{none_last, none_or_last, same_of, same_back, same_trans, AllBefore, before_with, marks_split, marks_joined, marks_carried, mark_carried}
 use Rattle.av1_tile.proofs.StepLaws.{IsAllowed, step_fit, step_at, tried_still}
 
 -- the tokens of a path are valid
@@ -49,23 +48,23 @@ tokens_valid learns (Done a) (s ∷ ss) c f = absurd f
 tokens_valid learns (Ask q k) (s ∷ ss) c f = All-cons IsToken _ _ (token_valid (coded_by c q) s f.0 f.1) (tokens_valid learns (k s) ss (learns c q s) f.2)
 
 -- a writer that comes along a path tells no less than before
-comes_told : {A : Type 0} (t u : Syntax Distribution A) (old new : Standing (List ℕ)) → IsInterval (interval_of old.position) → Comes coded_by (learnt true) t u old new → tell_frac_at old.position ≤ tell_frac_at new.position
-comes_told t u old new v h =
-    let is : new.position ≡ advance_all old.position (tokens_along coded_by (learnt true) t h.symbols old.context) =
-    ap (λ (s : Standing (List ℕ)). s.position) (h.wrote ∙ stored_is coded_by (learnt true) t h.symbols old) in
+comes_told : {A : Type 0} (learns : Bool) (t u : Syntax Distribution A) (old new : Standing (List ℕ)) → IsInterval (interval_of old.position) → Comes coded_by (learnt learns) t u old new → tell_frac_at old.position ≤ tell_frac_at new.position
+comes_told learns t u old new v h =
+    let is : new.position ≡ advance_all old.position (tokens_along coded_by (learnt learns) t h.symbols old.context) =
+    ap (λ (s : Standing (List ℕ)). s.position) (h.wrote ∙ stored_is coded_by (learnt learns) t h.symbols old) in
     subst (λ (p : Position). tell_frac_at old.position ≤ tell_frac_at p) (sym is)
-    (frac_rises old.position (tokens_along coded_by (learnt true) t h.symbols old.context) v (tokens_valid (learnt true) t h.symbols old.context h.fits))
+    (frac_rises old.position (tokens_along coded_by (learnt learns) t h.symbols old.context) v (tokens_valid (learnt learns) t h.symbols old.context h.fits))
 
 module _ {W : Type 0} (writer : Ghosts W) where
   -- nor does one that writes a step
   pub written_told : (step : TileStep) (t : Tile) (w later : W) (numbers : List ℕ) → IsInterval (interval_of (writer.position w))
-      → Writes coded_by (learnt true) (syntax_of (question_of step) t) step (standing (writer.position w) t.numbers) (standing (writer.position later) numbers) → tell_frac_at (writer.position w) ≤ tell_frac_at (writer.position later)
-  written_told step t w later numbers v h = comes_told (syntax_of (question_of step) t) (Done step) (standing (writer.position w) t.numbers) (standing (writer.position later) numbers) v h
+      → Writes coded_by (learnt t.learns) (syntax_of (question_of step) t) step (standing (writer.position w) t.numbers) (standing (writer.position later) numbers) → tell_frac_at (writer.position w) ≤ tell_frac_at (writer.position later)
+  written_told step t w later numbers v h = comes_told t.learns (syntax_of (question_of step) t) (Done step) (standing (writer.position w) t.numbers) (standing (writer.position later) numbers) v h
 
   -- or a front of it
   pub front_told : (step : TileStep) (t : Tile) (w later : W) (numbers : List ℕ) → IsInterval (interval_of (writer.position w))
-      → Begins coded_by (learnt true) (syntax_of (question_of step) t) step (standing (writer.position w) t.numbers) (standing (writer.position later) numbers) → tell_frac_at (writer.position w) ≤ tell_frac_at (writer.position later)
-  front_told step t w later numbers v h = comes_told (syntax_of (question_of step) t) h.left (standing (writer.position w) t.numbers) (standing (writer.position later) numbers) v h.comes
+      → Begins coded_by (learnt t.learns) (syntax_of (question_of step) t) step (standing (writer.position w) t.numbers) (standing (writer.position later) numbers) → tell_frac_at (writer.position w) ≤ tell_frac_at (writer.position later)
+  front_told step t w later numbers v h = comes_told t.learns (syntax_of (question_of step) t) h.left (standing (writer.position w) t.numbers) (standing (writer.position later) numbers) v h.comes
 
   -- a mark stands still while a step is written in its superblock
   step_carried : (w later : W) (old new : TileState) (last m : TrialMark) (step : TileStep) → CanGoBack writer w (log_of old) (tile_of old) m → IsBefore m last → IsAllowed step (tile_of old) → is_untried step ≡ false
@@ -97,13 +96,13 @@ module _ {W : Type 0} (writer : Ghosts W) where
         place = k.of_tile.place;
         blocks = record { x = k.of_tile.blocks.x ∙ sym x; y = k.of_tile.blocks.y ∙ sym y; cols = k.of_tile.blocks.cols ∙ sym cols; rows = k.of_tile.blocks.rows ∙ sym rows };
       })
-      (ap (λ (ns : List ℕ). record moved { numbers = ns; bc = gone_back m.context.bc m.blocks moved.bc; current = m.current; uv = m.uv }) (und.same m.context.fc k.saves)
-      ∙ ap (λ (v : BlockContext). record moved { numbers = numbers; bc = v; current = m.current; uv = m.uv }) bc
+      (ap (λ (ns : List ℕ). record moved { numbers = ns; bc = gone_back m.context.bc m.blocks moved.bc; current = m.current; uv = m.uv; cands = candidates_in m.cands; pick = m.pick }) (und.same m.context.fc k.saves)
+      ∙ ap (λ (v : BlockContext). record moved { numbers = numbers; bc = v; current = m.current; uv = m.uv; cands = candidates_in m.cands; pick = m.pick }) bc
       ∙ same_rest moved tile (gone_back m.context.bc m.blocks tile.bc) numbers m given number learns rs)
       (omega (arith, k.told_by_now, rises)) (omega (arith, k.stored, keeps.more))
     where
       same_rest : (t v : Tile) (bc : BlockContext) (ns : List ℕ) (m : TrialMark) → t.given ≡ v.given → t.number ≡ v.number → t.learns ≡ v.learns → t.rs ≡ v.rs
-          → ◌≡◌ {A = Tile} (record t { numbers = ns; bc = bc; current = m.current; uv = m.uv }) (record v { numbers = ns; bc = bc; current = m.current; uv = m.uv })
+          → ◌≡◌ {A = Tile} (record t { numbers = ns; bc = bc; current = m.current; uv = m.uv; cands = candidates_in m.cands; pick = m.pick }) (record v { numbers = ns; bc = bc; current = m.current; uv = m.uv; cands = candidates_in m.cands; pick = m.pick })
       same_rest t v bc ns m a b c d = cc (a, b, c, d)
 
   -- or refused
@@ -113,8 +112,8 @@ module _ {W : Type 0} (writer : Ghosts W) where
   refused_carried w later old new m k is keeps und rises =
       mark_carried writer w later old new m k (keeps.reached m.writer k.reached) (keeps.same m.writer k.reached) (und.reached m.context.fc k.saves)
       (subst (IsOfTile m) (sym is) (same_of_tile (tile_of new).numbers))
-      (ap (λ (ns : List ℕ). record (tile_of new) { numbers = ns; bc = gone_back m.context.bc m.blocks (tile_of new).bc; current = m.current; uv = m.uv }) (und.same m.context.fc k.saves)
-      ∙ ap (λ (x : Tile). record x { numbers = undone (log_of old) (tile_of old).numbers m.context.fc; bc = gone_back m.context.bc m.blocks x.bc; current = m.current; uv = m.uv }) is)
+      (ap (λ (ns : List ℕ). record (tile_of new) { numbers = ns; bc = gone_back m.context.bc m.blocks (tile_of new).bc; current = m.current; uv = m.uv; cands = candidates_in m.cands; pick = m.pick }) (und.same m.context.fc k.saves)
+      ∙ ap (λ (x : Tile). record x { numbers = undone (log_of old) (tile_of old).numbers m.context.fc; bc = gone_back m.context.bc m.blocks x.bc; current = m.current; uv = m.uv; cands = candidates_in m.cands; pick = m.pick }) is)
       (omega (arith, k.told_by_now, rises)) (omega (arith, k.stored, keeps.more))
     where
       same_of_tile : (ns : List ℕ) → IsOfTile m (with_numbers ns (tile_of old))
@@ -211,9 +210,9 @@ module _ {W : Type 0} (writer : Ghosts W) where
         place = k.of_tile.place;
         blocks = record { x = k.of_tile.blocks.x; y = k.of_tile.blocks.y; cols = k.of_tile.blocks.cols; rows = k.of_tile.blocks.rows };
       }))
-      (ap (λ (ns : List ℕ). record moved { numbers = ns; bc = gone_back m.context.bc m.blocks moved.bc; current = m.current; uv = m.uv }) same
-      ∙ ap (λ (x : Tile). record x { numbers = numbers; bc = gone_back m.context.bc m.blocks x.bc; current = m.current; uv = m.uv }) is
-      ∙ ap (λ (x : BlockContext). record tile { numbers = numbers; bc = x; current = m.current; uv = m.uv }) (back_again m.context.bc last.context.bc m.blocks last.blocks tile.bc column cs corner))
+      (ap (λ (ns : List ℕ). record moved { numbers = ns; bc = gone_back m.context.bc m.blocks moved.bc; current = m.current; uv = m.uv; cands = candidates_in m.cands; pick = m.pick }) same
+      ∙ ap (λ (x : Tile). record x { numbers = numbers; bc = gone_back m.context.bc m.blocks x.bc; current = m.current; uv = m.uv; cands = candidates_in m.cands; pick = m.pick }) is
+      ∙ ap (λ (x : BlockContext). record tile { numbers = numbers; bc = x; current = m.current; uv = m.uv; cands = candidates_in m.cands; pick = m.pick }) (back_again m.context.bc last.context.bc m.blocks last.blocks tile.bc column cs corner))
       (subst (λ (p : Position). m.tell ≤ tell_frac_at p) (sym went.position) (omega (arith, before.told, i.told)))
       (omega (arith, before.stored, went.stored))
 
@@ -241,12 +240,12 @@ module _ {W : Type 0} (writer : Ghosts W) where
 
   -- a step that was written and settled
   pub step_done : {E : Type 0} (w later : W) (old mid new : TileState) (marks : List TrialMark) (step : TileStep)
-      → Writes coded_by (learnt true) (syntax_of (question_of step) (tile_of old)) step (standing (writer.position w) (tile_of old).numbers) (standing (writer.position later) (tile_of mid).numbers)
+      → Writes coded_by (learnt (tile_of old).learns) (syntax_of (question_of step) (tile_of old)) step (standing (writer.position w) (tile_of old).numbers) (standing (writer.position later) (tile_of mid).numbers)
       → tile_of mid ≡ entered step (with_numbers (tile_of mid).numbers (tile_of old)) → Keeps writer w later → KeepsUndone (log_of old) (log_of mid) (tile_of old).numbers (tile_of mid).numbers → AllStandStill writer w later old mid marks
       → tile_of new ≡ tile_of mid → (0 < length marks → new ≡ mid) → Steps writer w later old new marks marks {E = E} (Ok None) step
   step_done w later old mid new marks step wrote moved keeps und still is same = record {
     answer = refl;
-    wrote = subst (λ (x : Tile). Writes coded_by (learnt true) (syntax_of (question_of step) (tile_of old)) step (standing (writer.position w) (tile_of old).numbers) (standing (writer.position later) x.numbers)) (sym is) wrote;
+    wrote = subst (λ (x : Tile). Writes coded_by (learnt (tile_of old).learns) (syntax_of (question_of step) (tile_of old)) step (standing (writer.position w) (tile_of old).numbers) (standing (writer.position later) x.numbers)) (sym is) wrote;
     tile = is ∙ moved ∙ ap (λ (x : Tile). entered step (with_numbers x.numbers (tile_of old))) (sym is);
     refused = tt;
     kept = keeps;
@@ -260,6 +259,6 @@ module _ {W : Type 0} (writer : Ghosts W) where
 
   -- a step that was refused
   pub step_refused : {E : Type 0} (e : E) (w later : W) (old new : TileState) (marks : List TrialMark) (step : TileStep)
-      → Begins coded_by (learnt true) (syntax_of (question_of step) (tile_of old)) step (standing (writer.position w) (tile_of old).numbers) (standing (writer.position later) (tile_of new).numbers)
+      → Begins coded_by (learnt (tile_of old).learns) (syntax_of (question_of step) (tile_of old)) step (standing (writer.position w) (tile_of old).numbers) (standing (writer.position later) (tile_of new).numbers)
       → tile_of new ≡ with_numbers (tile_of new).numbers (tile_of old) → Keeps writer w later → KeepsUndone (log_of old) (log_of new) (tile_of old).numbers (tile_of new).numbers → AllStandStill writer w later old new marks → Steps writer w later old new marks marks {E = E} (Err e) step
   step_refused e w later old new marks step begun same keeps und still = record { answer = tt; wrote = begun; tile = tt; refused = same; kept = keeps; undone = λ h. und; marks_are = refl; still = still }

@@ -1,6 +1,7 @@
 mod AllBack
 mod AngleSteps
 mod Arms
+mod Candidates
 mod Coded
 mod CoeffFrame
 mod CoeffPlaces
@@ -12,17 +13,22 @@ mod Effects
 mod FilterArms
 mod FilterSteps
 pub mod Fresh
+mod InterArms
+mod InterSteps
 mod IntraSteps
 mod Items
 mod KindLaws
 mod Marking
 mod Marks
+mod ModeArms
+mod ModeSteps
 mod Neutral
 mod OfCurrent
 mod OneBlock
 pub mod Places
 mod Planes
 pub mod ReadingBack
+mod Ready
 mod RestorationArms
 mod RestorationSteps
 mod Rows
@@ -30,5 +36,8 @@ mod Splitting
 mod Standing
 mod StepLaws
 pub mod Surviving
+mod Switches
 mod TransformArms
 mod TransformSteps
+mod VectorArms
+mod VectorSteps

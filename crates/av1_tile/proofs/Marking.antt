@@ -13,12 +13,15 @@ use Rattle.av1_geometry.specs.declared.block_offset.BlockOffset.{BlockOffset}
 use Rattle.av1_geometry.specs.declared.block_offset.TileBlockOffset.{TileBlockOffset}
 use Rattle.av1_geometry.specs.declared.chroma_sampling.ChromaSampling.{ChromaSampling}
 use Rattle.av1_geometry.specs.declared.superblock_offset.SuperBlockOffset.{SuperBlockOffset}
+use Rattle.av1_mvref.specs.ExtraSearch.{Candidates}
 use Rattle.av1_tile.specs.declared.trial.TrialMark.{TrialMark}
 use Rattle.av1_tile.specs.Marks.{back_to, IsOfTile}
 use Rattle.av1_tile.specs.Kept.{IsKept}
+use Rattle.av1_tile.specs.Place.{candidates_in}
 use Rattle.av1_tile.specs.Tile.{Tile, CurrentBlock, is_inside, sampling}
 use Rattle.av1_tile.proofs.Places.{both}
-use Rattle.av1_tile.proofs.StepLaws.{is_below, is_paired}
+use Rattle.av1_tile.proofs.Ready.{is_paired}
+use Rattle.av1_tile.proofs.StepLaws.{is_below}
 
 pub inside_is : (t : Tile) (bo : BlockOffset) → is_inside t bo ≡ true → (bo.x < t.bc.blocks.cols) × (bo.y < t.bc.blocks.rows)
 inside_is t bo h = let b = both _ _ h in (is_below _ _ b.0, is_below _ _ b.1)
@@ -37,12 +40,14 @@ marks_tile m t place sb at edges blocks x y kept inside =
       blocks = subst (IsSavedOf t.bc.blocks) (sym blocks) (record { x = refl; y = refl; cols = refl; rows = refl });
     }
 
-pub marked_back : (m : TrialMark) (log : CDFContextLog) (t : Tile) (place : TileBlockOffset) (sb : SuperBlockOffset) → m.context.bc ≡ taken place.0 (sampling t) t.bc → m.blocks ≡ saved_of sb t.bc.blocks → m.current ≡ t.current → m.uv ≡ t.uv →
+pub marked_back : (m : TrialMark) (log : CDFContextLog) (t : Tile) (place : TileBlockOffset) (sb : SuperBlockOffset) → m.context.bc ≡ taken place.0 (sampling t) t.bc → m.blocks ≡ saved_of sb t.bc.blocks → m.current ≡ t.current → m.uv ≡ t.uv → candidates_in m.cands ≡ t.cands → m.pick ≡ t.pick →
     undone log t.numbers m.context.fc ≡ t.numbers → IsKept t → back_to m log t ≡ t
-marked_back m log t place sb edges blocks current uv numbers kept =
+marked_back m log t place sb edges blocks current uv cands pick numbers kept =
     let bc : gone_back m.context.bc m.blocks t.bc ≡ t.bc =
     ap (λ (c : BlockContextCheckpoint). gone_back c m.blocks t.bc) edges ∙ ap (λ (s : Saved). gone_back (taken place.0 (sampling t) t.bc) s t.bc) blocks ∙ gives_back place.0 (sampling t) sb t.bc kept.edges in
-    ap (λ (ns : List ℕ). record t { numbers = ns; bc = gone_back m.context.bc m.blocks t.bc; current = m.current; uv = m.uv }) numbers
-    ∙ ap (λ (x : BlockContext). record t { bc = x; current = m.current; uv = m.uv }) bc
-    ∙ ap (λ (o : Option CurrentBlock). record t { current = o; uv = m.uv }) current
-    ∙ ap (λ o. record t { uv = o }) uv
+    ap (λ (ns : List ℕ). record t { numbers = ns; bc = gone_back m.context.bc m.blocks t.bc; current = m.current; uv = m.uv; cands = candidates_in m.cands; pick = m.pick }) numbers
+    ∙ ap (λ (x : BlockContext). record t { bc = x; current = m.current; uv = m.uv; cands = candidates_in m.cands; pick = m.pick }) bc
+    ∙ ap (λ (o : Option CurrentBlock). record t { current = o; uv = m.uv; cands = candidates_in m.cands; pick = m.pick }) current
+    ∙ ap (λ o. record t { uv = o; cands = candidates_in m.cands; pick = m.pick }) uv
+    ∙ ap (λ (o : Option Candidates). record t { cands = o; pick = m.pick }) cands
+    ∙ ap (λ n. record t { pick = n }) pick

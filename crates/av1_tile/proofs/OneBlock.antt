@@ -54,7 +54,7 @@ module _ (g : Grid) (bo : BlockOffset) (w : IsWhole g) (i : IsInside g bo) where
   fit : (x : ℕ) → x < g.cols → g.x + x < g.frame.frame_cols
   fit x h = omega (arith, h, w.corner.0, w.cols)
 
-  there : (x y : ℕ) → x < g.cols → y < g.rows → (g.y + y) * g.frame.frame_cols + (g.x + x) < length g.frame.blocks
+  pub there : (x y : ℕ) → x < g.cols → y < g.rows → (g.y + y) * g.frame.frame_cols + (g.x + x) < length g.frame.blocks
   there x y column row =
       let all : g.frame.frame_cols * g.rows ≡ length g.frame.blocks = ap (λ c. c * g.rows) w.cols ∙ sym w.all in
       let down : g.y + y < g.rows = omega (arith, row, w.corner.1) in
@@ -85,7 +85,7 @@ module _ (g : Grid) (bo : BlockOffset) (w : IsWhole g) (i : IsInside g bo) where
       ap (λ (l : List Block). record g { frame = record g.frame { blocks = l } }) same
 
   -- what stands elsewhere
-  elsewhere : (f : Block → Block) (x y : ℕ) → x < g.cols → y < g.rows → ((x ≡ bo.x) × (y ≡ bo.y) → ⊥) → block_at (over bo BLOCK_4X4 f g) x y ≡ block_at g x y
+  pub elsewhere : (f : Block → Block) (x y : ℕ) → x < g.cols → y < g.rows → ((x ≡ bo.x) × (y ≡ bo.y) → ⊥) → block_at (over bo BLOCK_4X4 f g) x y ≡ block_at g x y
   elsewhere f x y column row apart =
       let k = (g.y + y) * g.frame.frame_cols + (g.x + x) in
       get_or-changed (λ k b. if covers g bo BLOCK_4X4 k then f b else b) g.frame.blocks k DEFAULT (there x y column row)

@@ -1,12 +1,15 @@
 -- What the rules of a frame say of its tiles.
-use Rattle.std.proofs.Common.{◌≡◌, ℕ, ◌++◌, ◌*◌, ◌<◌, ◌≤◌, List, [], ◌∷◌, Bool, true, false, Option, None, Some, refl, ap, arith, ◌^◌, nat_le, nat_lt}
+use Rattle.std.proofs.Common.{◌≡◌, ℕ, zero, suc, sym, subst, ◌∙◌, ◌/◌, ◌%◌, ◌+◌, ◌++◌, ◌*◌, ◌<◌, ◌≤◌, List, [], ◌∷◌, Bool, true, false, Option, None, Some, refl, ap, arith, ◌^◌, nat_le, nat_lt}
+use Rattle.std.proofs.lemmas.Grind.{div_ceil_times}
 use Rattle.std.proofs.lemmas.Nat.{mul-le}
+use Rattle.std.proofs.Math.Nat.{div-lt_iff_lt-mul, mod-lt, mul_comm}
 use Rattle.std.specs.Prelude.{◌&&◌, if◌then◌else◌}
 use Rattle.std.specs.Int.{div_ceil}
 use Rattle.std.proofs.lemmas.Bool.Decides.{nat_tests}
 use Rattle.av1_frame.specs.FrameRules.{frame_rules, coding_rules}
 use Rattle.av1_frame.specs.HeaderRules.{blocks, sides_fit, header_rules}
 use Rattle.av1_frame.specs.TileRules.{tile_rules, tiling_of}
+use Rattle.av1_frame.specs.Tiling.{tiling}
 use Rattle.av1_frame.specs.declared.frame.FrameInvariants.{FrameInvariants}
 use Rattle.av1_frame.specs.declared.reference.RefState.{RefState}
 use Rattle.av1_frame.specs.declared.state.FrameState.{FrameState}
@@ -72,3 +75,48 @@ pub few_tiles : (fi : FrameInvariants) (k : ℕ) (t : TilingInfo) → t ≡ tili
 few_tiles fi k t is few h =
     let count : t.cols * t.rows ≡ tile_count fi = ap (λ (i : TilingInfo). i.cols * i.rows) is in
     omega (arith, h, count, mul-le t.cols t.rows 1024 1024 few.0 few.1)
+
+-- a tile begins inside the frame: one of its columns or rows, of so many superblocks, in a side
+pub begins_inside : (side wide m : ℕ) → 1 ≤ wide → m < div_ceil (div_ceil side 64) wide → m * (16 * wide) < 2 * div_ceil side 8
+begins_inside side wide m some h =
+    let sbs = div_ceil side 64 in
+    let before : m * wide < sbs = omega (arith, mul-le (m + 1) wide (div_ceil sbs wide) wide (omega (arith, h)) (omega arith), (div_ceil_times sbs wide (omega (arith, some))).1) in
+    let in_side : 64 * (m * wide) < side = omega (arith, before, (div_ceil_times side 64 (omega arith)).1) in
+    let even : 16 * (m * wide) < 2 * div_ceil side 8 = omega (arith, in_side, (div_ceil_times side 8 (omega arith)).0) in
+    omega (arith, even)
+
+-- of so many tiles to cover some superblocks there is one
+some_of : (a n b : ℕ) → 1 ≤ a → a ≤ n * b → 1 ≤ n
+some_of a zero b some h = absurd (omega (arith, some, h))
+some_of a (suc n) b some h = omega arith
+
+cols_are : (fi : FrameInvariants) → (tiling_of fi).cols ≡ div_ceil (div_ceil fi.width 64) fi.tile_width_sb
+unfolding tiling
+cols_are fi = refl
+
+rows_are : (fi : FrameInvariants) → (tiling_of fi).rows ≡ div_ceil (div_ceil fi.height 64) fi.tile_height_sb
+unfolding tiling
+rows_are fi = refl
+
+superblocks_some : (side : ℕ) → 1 ≤ side → 1 ≤ div_ceil side 64
+superblocks_some side h = omega (arith, h, (div_ceil_times side 64 (omega arith)).0)
+
+-- so each tile does, in both directions
+pub left_inside : (fi : FrameInvariants) (k : ℕ) (t : TilingInfo) → t ≡ tiling_of fi → IsCut fi → (k % t.cols) * (16 * fi.tile_width_sb) < 2 * div_ceil fi.width 8
+left_inside fi k t is cut =
+    let wide = fi.tile_width_sb in
+    let sbs = div_ceil fi.width 64 in
+    let cols : t.cols ≡ div_ceil sbs wide = ap (λ (i : TilingInfo). i.cols) is ∙ cols_are fi in
+    let some = some_of sbs (div_ceil sbs wide) wide (superblocks_some fi.width cut.width.0) (div_ceil_times sbs wide (omega (arith, cut.tile_width.0))).0 in
+    begins_inside fi.width wide (k % t.cols) cut.tile_width.0 (subst (λ n. k % t.cols < n) cols (mod-lt k (omega (arith, some, cols))))
+
+pub top_inside : (fi : FrameInvariants) (k : ℕ) (t : TilingInfo) → t ≡ tiling_of fi → IsCut fi → k < tile_count fi → (k / t.cols) * (16 * fi.tile_height_sb) < 2 * div_ceil fi.height 8
+top_inside fi k t is cut h =
+    let wide = fi.tile_width_sb in
+    let sbs = div_ceil fi.width 64 in
+    let cols : t.cols ≡ div_ceil sbs wide = ap (λ (i : TilingInfo). i.cols) is ∙ cols_are fi in
+    let rows : t.rows ≡ div_ceil (div_ceil fi.height 64) fi.tile_height_sb = ap (λ (i : TilingInfo). i.rows) is ∙ rows_are fi in
+    let some = some_of sbs (div_ceil sbs wide) wide (superblocks_some fi.width cut.width.0) (div_ceil_times sbs wide (omega (arith, cut.tile_width.0))).0 in
+    let count : tile_count fi ≡ t.rows * t.cols = sym (ap (λ (i : TilingInfo). i.cols * i.rows) is) ∙ mul_comm t.cols t.rows in
+    let below : k / t.cols < t.rows = (div-lt_iff_lt-mul {k = t.cols} {x = k} {y = t.rows} (omega (arith, some, cols))).1 (subst (λ n. k < n) count h) in
+    begins_inside fi.height fi.tile_height_sb (k / t.cols) cut.tile_height.0 (subst (λ n. k / t.cols < n) rows below)

@@ -1,15 +1,14 @@
 -- The states after the filter of a unit of loop restoration.
-use Rattle.std.proofs.Common.{◌≡◌, ℕ, ◌^◌, ◌≤◌, List, true, Result, Ok, Err, OnOk, OnErr, nat_eq, set, refl, sym, ap, subst, ◌∙◌, arith}
+use Rattle.std.proofs.Common.{◌≡◌, ℕ, List, Result, Ok, Err, OnOk, OnErr, nat_eq, set, refl, sym, ap, subst, ◌∙◌, arith}
 use Rattle.av1_blocks.specs.declared.block_context.BlockContext.{BlockContext}
 use Rattle.av1_cdf.specs.Context.{AreCdfs}
-use Rattle.av1_cdf.specs.Distribution.{coded_by, learnt}
 use Rattle.av1_ec.specs.declared.known.Known.{Ghosts}
-use Rattle.av1_ec.specs.Moves.{Moves}
-use Rattle.av1_model.specs.Comes.{standing, Wrote}
+use Rattle.av1_model.specs.Comes.{Wrote}
 use Rattle.av1_syntax.specs.Restoration.{plane_at, renewed}
 use Rattle.av1_syntax.specs.declared.restoration.RestorationFilter.{RestorationFilter}
 use Rattle.av1_syntax.specs.declared.restoration.RestorationPlane.{RestorationPlane}
 use Rattle.av1_syntax.specs.declared.restoration.TileRestorationState.{TileRestorationState}
+use Rattle.av1_syntax.specs.Calls.{Moving, coded_in, context_of, learnt_in, stands}
 use Rattle.av1_tile.specs.declared.tile.TileState.{TileState}
 use Rattle.av1_tile.specs.declared.unit.TileStep.TheVariants.{Lrf}
 use Rattle.av1_tile.specs.Kept.{IsKept}
@@ -51,9 +50,9 @@ lrf_kept (Err e) t fc bc rs plane f kept cdfs allowed rest renewed refused =
 -- a filter is written, or refused
 pub lrf_writes : {W U E : Type 0} (writer : Ghosts W) (r : Result U E) (plane : ℕ) (f : RestorationFilter) (w later : W) (old new : TileState) → IsAllowed (Lrf plane f) (tile_of old)
     → tile_of new ≡ with_rest (tile_of old) (tile_of new).numbers (tile_of new).bc (tile_of new).rs
-    → Wrote coded_by (learnt true) r (lrf_kind plane (tile_of old)).element.tree f (standing (writer.position w) (tile_of old).numbers) (standing (writer.position later) (tile_of new).numbers)
+    → Wrote coded_in learnt_in r (lrf_kind plane (tile_of old)).element.tree f (stands writer w old.cw) (stands writer later new.cw)
     → (tile_of new).bc ≡ (tile_of old).bc → OnOk r ((tile_of new).rs.planes ≡ next_planes (tile_of old) plane f) → OnErr r ((tile_of new).rs ≡ (tile_of old).rs)
-    → Moves writer 3835 w later (log_of old) (log_of new) (tile_of old).numbers (tile_of new).numbers → Writes writer r (Lrf plane f) w later old new
+    → Moving writer 3835 w later (log_of old) (log_of new) (context_of old.cw) (context_of new.cw) → Writes writer r (Lrf plane f) w later old new
 lrf_writes writer (Ok v) plane f w later old new allowed is wrote rest renewed refused moves =
     writes_whole writer (Ok v) v refl (Lrf plane f) (lrf_kind plane (tile_of old)) f w later old new 3835 refl refl allowed wrote
     (is ∙ lrf_entered (tile_of old) (tile_of new).numbers (tile_of new).bc (tile_of new).rs plane f rest renewed) (omega arith) moves

@@ -2,28 +2,31 @@
 use Rattle.std.proofs.Common.{◌≡◌, ℕ, ℤ, pos, negsuc, List, [], ◌∷◌, ◌++◌, replicate, ◌*◌, true, false, refl, Option, Some, None, map, option_map}
 use Rattle.std.specs.Int.Count.{count_leading_zeros}
 use Rattle.av1_geometry.specs.declared.block_size.BlockSize.TheVariants.{BLOCK_4X4, BLOCK_8X8}
+use Rattle.av1_geometry.specs.declared.frame_type.ReferenceMode.TheVariants.{SELECT}
+use Rattle.av1_geometry.specs.declared.ref_type.RefType.TheVariants.{LAST_FRAME, BWDREF_FRAME, NONE_FRAME}
 use Rattle.av1_geometry.specs.declared.tx_size.TxSize.TheVariants.{TX_4X4, TX_8X8}
+use Rattle.av1_geometry.specs.declared.prediction_mode.PredictionMode.TheVariants.{NEARESTMV, NEAR0MV, NEAR2MV, NEWMV, NEAR_NEAR1MV, NEAR_NEAR2MV, NEAREST_NEWMV, NEW_NEARESTMV, NEAR_NEW0MV, NEAR_NEW2MV, NEW_NEAR0MV, NEW_NEAR2MV, NEW_NEWMV}
 use Rattle.av1_tile.specs.declared.unit.Item.{Item}
 use Rattle.av1_tile.specs.declared.unit.Item.TheVariants.{Step, Begin, Keep, Abandon}
-use Rattle.av1_tile.specs.declared.unit.TileStep.TheVariants.{Block, Skip, Lrf, Segment, DeltaLf, AngleDelta, CflAlphas, TxNote, TxIntra, TxInter}
-use Rattle.av1_tile.specs.declared.unit.Unit.{Unit}
+use Rattle.av1_tile.specs.declared.unit.TileStep.TheVariants.{Block, Skip, Lrf, Segment, DeltaLf, AngleDelta, CflAlphas, TxNote, TxIntra, TxInter, IsInter, RefFrames, InterMode}
 use Rattle.av1_tile.specs.declared.error.UnitError.TheVariants.{Refused, BadScript}
-use Rattle.av1_tile.specs.declared.error.Place.TheVariants.{Tables, Item as ItemPlace}
+use Rattle.av1_tile.specs.declared.error.Place.TheVariants.{Item as ItemPlace}
 use Rattle.av1_tile.specs.declared.error.UnitError.{UnitError}
 use Rattle.av1_tile.specs.declared.report.TrialCost.{TrialCost}
 use Rattle.av1_model.specs.Bits.{bits_of}
 use Rattle.av1_model.specs.Eighths.{log_digits}
 use Rattle.av1_ec.specs.CodeTrees.{literal_tree, subexp_tree}
-use Rattle.av1_model.specs.Codes.{leb128, subexp}
+use Rattle.av1_model.specs.Codes.{subexp}
 use Rattle.av1_model.specs.Interval.{whole, final_bytes, bits}
 use Rattle.av1_cdf.specs.Context.{written_between}
 use Rattle.av1_cdf.specs.Layout.{slot, layout, fields, vector_fields, component_fields}
 use Rattle.av1_blocks.specs.Places.{changed}
 use Rattle.av1_frame.specs.Defaults.{key_frame, plain_state, still_sequence, unrestored}
-use Rattle.av1_frame.specs.Tiling.{tiling, least_log2}
+use Rattle.av1_frame.specs.Tiling.{tiling}
 use Rattle.av1_geometry.specs.declared.chroma_sampling.ChromaSampling.TheVariants.{Cs400}
 use Rattle.av1_syntax.specs.declared.restoration.RestorationFilter.TheVariants.{None as Unfiltered, Sgrproj}
 use Rattle.av1_tile.specs.Given.{Given}
+use Rattle.av1_tile.specs.ModeSteps.{first_pick, may_pick_after, variant}
 use Rattle.av1_model.specs.Reading.{Coding}
 use Rattle.av1_tile.specs.Tile.{Tile, fresh, has_chroma_size}
 use Rattle.av1_tile.specs.TileBytes.{started}
@@ -45,6 +48,7 @@ given side = record {
   refs = [];
   metadata = [];
   delimiter = true;
+  eob_by_coded = false;
 }
 
 -- where its tile begins
@@ -200,6 +204,27 @@ not_inter : wrong 2 (Step (Block 0 0 BLOCK_8X8) ∷ Step (TxInter true) ∷ []) 
 unfolding given key_frame still_sequence tiling changed wrong at_first numbers slot layout fields vector_fields component_fields written_between count_leading_zeros has_chroma_size
 not_inter = refl
 
+no_inter_mode : wrong 2 (Step (Block 0 0 BLOCK_8X8) ∷ Step (InterMode NEWMV) ∷ []) ≡ Some (Refused (ItemPlace 0 1) record { 0 = 65 })
+unfolding given key_frame still_sequence tiling changed wrong at_first numbers slot layout fields vector_fields component_fields written_between count_leading_zeros has_chroma_size
+no_inter_mode = refl
+
+-- the candidates that modes begin with, and after which of numbers 0 to 3 they may take a later one
+first_picks : map first_pick (NEARESTMV ∷ NEAR0MV ∷ NEWMV ∷ NEAREST_NEWMV ∷ NEW_NEARESTMV ∷ NEAR_NEW0MV ∷ NEW_NEAR0MV ∷ NEW_NEWMV ∷ []) ≡ 0 ∷ 1 ∷ 0 ∷ 0 ∷ 0 ∷ 1 ∷ 1 ∷ 0 ∷ []
+first_picks = refl
+
+later_new : map (λ i. may_pick_after i NEW_NEWMV) (0 ∷ 1 ∷ 2 ∷ 3 ∷ []) ≡ true ∷ true ∷ false ∷ false ∷ []
+later_new = refl
+
+later_near : map (λ i. may_pick_after i NEAR_NEW0MV) (0 ∷ 1 ∷ 2 ∷ 3 ∷ []) ≡ false ∷ true ∷ true ∷ false ∷ []
+later_near = refl
+
+later_none : map (λ i. may_pick_after i NEAREST_NEWMV) (0 ∷ 1 ∷ 2 ∷ 3 ∷ []) ≡ false ∷ false ∷ false ∷ false ∷ []
+later_none = refl
+
+-- the variants of modes that take the fourth candidate
+variants : map (variant 2) (NEAR0MV ∷ NEAR_NEAR1MV ∷ NEAR_NEW0MV ∷ NEW_NEAR0MV ∷ NEWMV ∷ []) ≡ NEAR2MV ∷ NEAR_NEAR2MV ∷ NEAR_NEW2MV ∷ NEW_NEAR2MV ∷ NEWMV ∷ []
+variants = refl
+
 -- so much of a context as the depth of 8x8 needs, and a frame that leaves it to its blocks
 depth_numbers : List ℕ
 depth_numbers = replicate 592 0 ++ 16384 ∷ 0 ∷ 16384 ∷ 0 ∷ 16384 ∷ 0 ∷ []
@@ -257,3 +282,43 @@ weight_refused = refl
 filter_in_trial : first_wrong 0 (started at_restored) (Begin record { 0 = record { x = 0; y = 0 } } ∷ filtered (pos 31)) ≡ Some (BadScript 0 1)
 unfolding given key_frame still_sequence tiling changed restored at_restored filtered
 filter_in_trial = refl
+
+-- a frame of inter blocks, where some may have two references
+inter_frame : Given
+inter_frame = record (given 2) { fi = record (given 2).fi { intra_only = false; reference_mode = SELECT } }
+
+-- so much of a context as the flag of inter blocks needs
+inter_numbers : List ℕ
+inter_numbers = replicate 292 0 ++ 16384 ∷ 0 ∷ 16384 ∷ 0 ∷ 16384 ∷ 0 ∷ 16384 ∷ 0 ∷ []
+
+at_inter : Coding Tile
+at_inter = record { interval = whole; context = fresh inter_frame 0 inter_numbers }
+
+inter_block : List Item
+inter_block = Step (Block 0 0 BLOCK_8X8) ∷ Step (IsInter true) ∷ []
+
+-- no block of a key frame says whether it is an inter block, and an intra block has no references
+inter_in_key : wrong 2 inter_block ≡ Some (Refused (ItemPlace 0 1) record { 0 = 65 })
+unfolding given key_frame still_sequence tiling changed wrong at_first inter_block has_chroma_size
+inter_in_key = refl
+
+intra_refused : first_wrong 0 (started at_inter) (Step (Block 0 0 BLOCK_8X8) ∷ Step (RefFrames (LAST_FRAME, NONE_FRAME)) ∷ []) ≡ Some (Refused (ItemPlace 0 1) record { 0 = 66 })
+unfolding given key_frame still_sequence tiling changed inter_frame at_inter has_chroma_size
+intra_refused = refl
+
+-- two references need sides of 8 samples
+pair_refused : first_wrong 0 (started at_inter) (Step (Block 0 0 BLOCK_4X4) ∷ Step (IsInter true) ∷ Step (RefFrames (LAST_FRAME, BWDREF_FRAME)) ∷ []) ≡ Some (Refused (ItemPlace 0 2) record { 0 = 77 })
+unfolding given key_frame still_sequence tiling changed inter_frame inter_numbers at_inter slot layout fields vector_fields component_fields written_between count_leading_zeros has_chroma_size
+pair_refused = refl
+
+inter_tile : final_bytes (after_all at_inter (surviving inter_block)).interval ≡ 0xc0 ∷ []
+unfolding given key_frame still_sequence tiling changed inter_frame inter_numbers at_inter slot layout fields vector_fields component_fields written_between inter_block count_leading_zeros has_chroma_size
+inter_tile = refl
+
+-- the candidates that were found are those of the block no more
+found : Coding Tile
+found = record at_inter { context = record at_inter.context { current = Some (record { 0 = record { x = 0; y = 0 } }, BLOCK_8X8); cands = Some (record { list = []; context = 0 }) } }
+
+inter_clears : (after_all found (IsInter true ∷ [])).context.cands ≡ None
+unfolding given key_frame still_sequence tiling changed inter_frame inter_numbers at_inter slot layout fields vector_fields component_fields written_between found count_leading_zeros
+inter_clears = refl

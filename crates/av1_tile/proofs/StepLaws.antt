@@ -1,12 +1,11 @@
 -- All kinds of step. What each brings is one line for each of the first lemmas; the others hold of every kind.
-use Rattle.std.proofs.Common.{zero, suc, ◌≤◌, ◌&&◌, nat_lt, nat_le, ◌==◌, option_map, ◌≡◌, ℕ, ◌+◌, ◌-◌, ◌*◌, ◌/◌, ◌%◌, min, ◌<◌, ◌^◌, Bool, true, false, IsTrue, List, [], ◌∷◌, ◌++◌, Option, Some, None, is_some, is_none, length, refl, sym, ◌∙◌, ap, subst, arith, if◌then◌else◌}
+use Rattle.std.proofs.Common.{inl, zero, suc, ◌≤◌, ◌&&◌, nat_lt, nat_le, ◌==◌, option_map, ◌≡◌, ℕ, ◌+◌, ◌-◌, ◌*◌, ◌/◌, ◌%◌, min, ◌<◌, ◌^◌, Bool, true, false, IsTrue, List, [], ◌∷◌, ◌++◌, Option, Some, None, is_some, is_none, length, refl, sym, ◌∙◌, ap, subst, arith, if◌then◌else◌}
 use Rattle.std.proofs.lemmas.Bool.Decides.{nat_tests}
 use Rattle.std.specs.Option.{ForSome, option_map_or}
 use Rattle.av1_blocks.specs.declared.block.Block.{Block as GridBlock}
 use Rattle.av1_cdf.specs.Context.{AreCdfs}
 use Rattle.av1_cdf.specs.Distribution.{coded_by, learnt, HasSymbols}
 use Rattle.av1_cdf.proofs.Distributions.{keeps_cdfs}
-use Rattle.av1_frame.specs.declared.frame.FrameInvariants.{FrameInvariants}
 use Rattle.av1_geometry.specs.declared.block_offset.BlockOffset.{BlockOffset}
 use Rattle.av1_geometry.specs.declared.block_size.BlockSize.{BlockSize}
 use Rattle.av1_geometry.specs.declared.error.Rule.{Rule}
@@ -27,32 +26,39 @@ use Rattle.av1_syntax.specs.Partition.{IsParted, has_cols, has_rows, is_allowed,
 use Rattle.av1_syntax.proofs.Elements.{partition_reads, skip_reads}
 use Rattle.av1_tile.specs.declared.error.StepFault.TheVariants.{TooLong, Broken}
 use Rattle.av1_tile.specs.declared.unit.TileStep.{TileStep}
-use Rattle.av1_tile.specs.declared.unit.TileStep.TheVariants.{RowStart, Block, Partition, Skip, IntraModeKf, UvMode, IntraMode, Cdef, FilterIntra, Palette, Lrf, Segment, DeltaLf, AngleDelta, CflAlphas, TxNote, TxIntra, TxInter, Coeffs}
+use Rattle.av1_tile.specs.declared.unit.TileStep.TheVariants.{RowStart, Block, Partition, Skip, IntraModeKf, UvMode, IntraMode, Cdef, FilterIntra, Palette, Lrf, Segment, DeltaLf, AngleDelta, CflAlphas, TxNote, TxIntra, TxInter, IsInter, RefFrames, Coeffs, InterMode, CompoundMode, Drl, MvRefs, Mv}
 use Rattle.av1_tile.specs.Effect.{Effect, Over, Parted, Unfilled, changed_by_all}
 use Rattle.av1_tile.specs.AngleSteps.{angle_delta_kind, cfl_alphas_kind}
 use Rattle.av1_tile.specs.DeltaSteps.{segment_kind, delta_lf_kind}
 use Rattle.av1_tile.specs.CoeffSteps.{chroma_coeffs_kind, luma_coeffs_kind}
 use Rattle.av1_tile.specs.FilterSteps.{cdef_kind, filter_intra_kind, palette_kind}
 use Rattle.av1_tile.specs.Given.{tile_cols, tile_rows}
+use Rattle.av1_tile.specs.InterSteps.{is_inter_kind, ref_frames_kind}
 use Rattle.av1_tile.specs.IntraSteps.{intra_mode_kf_kind, uv_mode_kind, intra_mode_kind}
+use Rattle.av1_tile.specs.ModeSteps.{inter_mode_kind, compound_mode_kind, drl_kind}
 use Rattle.av1_tile.specs.Kept.{IsBlock, IsFine, IsKept, AllFit, AllAt}
 use Rattle.av1_tile.specs.Kind.{Kind, answers, holds, rules_of, of_none, of_current, IsKind}
 use Rattle.av1_tile.specs.RestorationSteps.{lrf_kind}
 use Rattle.av1_tile.specs.Script.{tile_after, tokens_of}
-use Rattle.av1_tile.specs.Step.{is_aligned, is_coded_size, is_parted_size, is_split_on, parted, row_start_kind, block_kind, partition_kind, skip_kind, step_fault, most_bits, Question, OfRowStart, OfBlock, OfPartition, OfSkip, OfIntraModeKf, OfUvMode, OfIntraMode, Answer, question_of, answer_of, kind_of, rules, syntax_of, symbols_of, effects_of, entered, is_untried, OfCdef, OfFilterIntra, OfPalette, OfLrf, OfSegment, OfDeltaLf, OfAngleDelta, OfCflAlphas, OfTxNote, OfTxIntra, OfTxInter, OfLumaCoeffs, OfChromaCoeffs}
+use Rattle.av1_tile.specs.Step.{is_aligned, is_coded_size, is_parted_size, is_split_on, parted, row_start_kind, block_kind, partition_kind, skip_kind, step_fault, most_bits, Question, OfRowStart, OfBlock, OfPartition, OfSkip, OfIntraModeKf, OfUvMode, OfIntraMode, Answer, question_of, answer_of, kind_of, rules, syntax_of, symbols_of, effects_of, entered, is_untried, OfCdef, OfFilterIntra, OfPalette, OfLrf, OfSegment, OfDeltaLf, OfAngleDelta, OfCflAlphas, OfTxNote, OfTxIntra, OfTxInter, OfIsInter, OfRefFrames, OfLumaCoeffs, OfChromaCoeffs, OfInterMode, OfCompoundMode, OfDrl, OfMvRefs, OfMv}
 use Rattle.av1_tile.specs.Tile.{Tile, CurrentBlock, place_of_block, size_of_block, with_numbers, sampling, has_chroma_size, is_inside}
 use Rattle.av1_tile.proofs.OfCurrent.{of_current_named, of_current_rules, of_current_places, current_bare}
-use Rattle.av1_tile.proofs.Effects.{all_kept, all_same, all_still, numbers_kept}
+use Rattle.av1_tile.proofs.Effects.{all_kept, all_same, all_still, numbers_kept, still_sound}
 use Rattle.av1_tile.proofs.AngleSteps.{angle_delta_is_kind, cfl_alphas_is_kind}
 use Rattle.av1_tile.proofs.DeltaSteps.{segment_is_kind, delta_lf_is_kind}
 use Rattle.av1_tile.specs.TransformSteps.{note, tx_note_kind, tx_intra_kind, tx_inter_kind}
 use Rattle.av1_tile.proofs.CoeffSteps.{chroma_coeffs_is_kind, luma_coeffs_is_kind}
+use Rattle.av1_tile.proofs.InterSteps.{is_inter_is_kind, ref_frames_is_kind}
 use Rattle.av1_tile.proofs.IntraSteps.{intra_mode_kf_is_kind, uv_mode_is_kind, intra_mode_is_kind}
+use Rattle.av1_tile.proofs.ModeSteps.{inter_mode_is_kind, compound_mode_is_kind, drl_is_kind}
 use Rattle.av1_tile.proofs.FilterSteps.{cdef_is_kind, filter_intra_is_kind, palette_is_kind}
 use Rattle.av1_tile.proofs.RestorationSteps.{lrf_is_kind}
 use Rattle.av1_tile.proofs.KindLaws.{kind_reads, none_is, asking_holds, answering_holds, leads_step, step_apart, steps_ask}
-use Rattle.av1_tile.proofs.Places.{all_hold, both, is_at_most, is_cut}
+use Rattle.av1_tile.proofs.Places.{all_hold, both, is_at_most}
+use Rattle.av1_tile.proofs.Ready.{is_paired}
 use Rattle.av1_tile.proofs.TransformSteps.{tx_note_is_kind, tx_intra_is_kind, tx_inter_is_kind}
+use Rattle.av1_tile.specs.VectorSteps.{find, mv_refs_kind, mv_kind}
+use Rattle.av1_tile.proofs.VectorSteps.{mv_refs_is_kind, mv_is_kind}
 
 -- a step's rules hold
 abbrev pub IsAllowed : TileStep → Tile → Type 0
@@ -95,26 +101,6 @@ block_is_kind bo size t = record {
   at_place = λ a. (refl, tt);
 }
 
-even_columns : (span side m : ℕ) → min (16 * span) (2 * side - m * (16 * span)) % 2 ≡ 0
-even_columns span side m = omega arith
-
--- a tile has whole pairs of columns and rows, and at most 1024 columns and 16384 rows
-pub record IsPaired (t : Tile) : Type 0 where
-  pub cols : t.bc.blocks.cols % 2 ≡ 0
-  pub rows : t.bc.blocks.rows % 2 ≡ 0
-  pub few : t.bc.blocks.cols ≤ 1024
-  pub low : t.bc.blocks.rows ≤ 16384
-
-pub is_paired : (t : Tile) → IsKept t → IsPaired t
-is_paired t k =
-    let cut = is_cut t.given.fi t.given.fs t.given.refs k.given.frame in
-    record {
-      cols = ap (λ n. n % 2) k.sides.cols ∙ even_columns t.given.fi.tile_width_sb _ _;
-      rows = ap (λ n. n % 2) k.sides.rows ∙ even_columns t.given.fi.tile_height_sb _ _;
-      few = omega (arith, k.sides.cols, cut.tile_width.1);
-      low = omega (arith, k.sides.rows, cut.tile_height.1);
-    }
-
 -- a square that keeps its rules can be parted
 pub can_part : (bo : BlockOffset) (size : BlockSize) (t : Tile) → IsKept t → holds (partition_kind bo size t).asking ≡ true → IsParted t.bc.blocks bo size
 can_part bo size t k h =
@@ -141,10 +127,10 @@ pub parted_block : (t : Tile) (bo : BlockOffset) (size : BlockSize) → IsParted
 parted_block t bo size p =
     record { column = p.column; row = p.row; width = p.most; height = omega (arith, p.square, p.most); aligned = (p.aligned.0, subst (λ n. bo.y % 2 ^ (n - 2) ≡ 0) p.square p.aligned.1) }
 
-parted_fit : (fi : FrameInvariants) (cols rows : ℕ) (current : Option CurrentBlock) (bo : BlockOffset) (size : BlockSize) (on : Bool) (o : Option BlockSize) → IsBlock cols rows bo size → AllFit fi cols rows current (if on then [] else option_map_or (λ subsize. Parted bo size subsize ∷ []) o [])
-parted_fit fi cols rows current bo size true o b = tt
-parted_fit fi cols rows current bo size false None b = tt
-parted_fit fi cols rows current bo size false (Some subsize) b = (b, tt)
+parted_fit : (t : Tile) (bo : BlockOffset) (size : BlockSize) (on : Bool) (o : Option BlockSize) → IsBlock t.bc.blocks.cols t.bc.blocks.rows bo size → AllFit t (if on then [] else option_map_or (λ subsize. Parted bo size subsize ∷ []) o [])
+parted_fit t bo size true o b = tt
+parted_fit t bo size false None b = tt
+parted_fit t bo size false (Some subsize) b = (b, tt)
 
 parted_at : (bo : BlockOffset) (size : BlockSize) (on : Bool) (o : Option BlockSize) → AllAt (Some bo) (if on then [] else option_map_or (λ subsize. Parted bo size subsize ∷ []) o [])
 parted_at bo size true o = tt
@@ -155,7 +141,7 @@ partition_is_kind : (bo : BlockOffset) (size : BlockSize) (t : Tile) → AreCdfs
 partition_is_kind bo size t cdfs k = record {
   reads = kind_reads (partition_kind bo size t) (λ p. IsTrue (is_allowed (has_cols t.bc.blocks bo size) (has_rows t.bc.blocks bo size) size p)) 1 (omega arith)
       (λ p h g. (all_hold ((partition_kind bo size t).answering p) (none_is _ g)).0) (λ h. partition_reads t.numbers t.bc bo size cdfs (can_part bo size t k h));
-  fit = λ p h. parted_fit t.given.fi t.bc.blocks.cols t.bc.blocks.rows t.current bo size (is_split_on size p) (subsize_of size p)
+  fit = λ p h. parted_fit t bo size (is_split_on size p) (subsize_of size p)
       (parted_block t bo size (can_part bo size t k (asking_holds (partition_kind bo size t).asking ((partition_kind bo size t).answering p) h)));
   at_place = λ p. parted_at bo size (is_split_on size p) (subsize_of size p);
 }
@@ -173,10 +159,16 @@ current_is_kind : {A : Type 0} (t : Tile) (o : Option CurrentBlock) (step : A �
 current_is_kind t None step f h = none_is_kind t step
 current_is_kind t (Some b) step f h = h b refl
 
-skip_fit : (fi : FrameInvariants) (cols rows : ℕ) (current : Option CurrentBlock) (b : CurrentBlock) (on : Bool) → IsBlock cols rows (place_of_block b) (size_of_block b) →
-    AllFit fi cols rows current (Over (place_of_block b) (size_of_block b) (λ x. record x { skip = on }) ∷ (if on then Unfilled (place_of_block b) (size_of_block b) ∷ [] else []))
-skip_fit fi cols rows current b true h = ((h, λ x fine. record { mode = fine.mode; segment = fine.segment }, λ c is x e. e), (h, tt))
-skip_fit fi cols rows current b false h = ((h, λ x fine. record { mode = fine.mode; segment = fine.segment }, λ c is x e. e), tt)
+skip_fit : (t : Tile) (b : CurrentBlock) (on : Bool) → IsBlock t.bc.blocks.cols t.bc.blocks.rows (place_of_block b) (size_of_block b) →
+    AllFit t (Over (place_of_block b) (size_of_block b) (λ x. record x { skip = on }) ∷ (if on then Unfilled (place_of_block b) (size_of_block b) ∷ [] else []))
+skip_fit t b true h = (
+  (h, λ x like fine. record { mode = fine.mode; segment = fine.segment; sound = still_sound x true x.cdef_index x.segmentation_idx x.deblock_deltas x.txsize fine.sound }, λ c is x e. e, λ c is. inl (λ x. refl)),
+  (h, tt),
+)
+skip_fit t b false h = (
+  (h, λ x like fine. record { mode = fine.mode; segment = fine.segment; sound = still_sound x false x.cdef_index x.segmentation_idx x.deblock_deltas x.txsize fine.sound }, λ c is x e. e, λ c is. inl (λ x. refl)),
+  tt,
+)
 
 skip_at : (b : CurrentBlock) (on : Bool) → AllAt (Some (place_of_block b)) (Over (place_of_block b) (size_of_block b) (λ x. record x { skip = on }) ∷ (if on then Unfilled (place_of_block b) (size_of_block b) ∷ [] else []))
 skip_at b true = (refl, (refl, tt))
@@ -185,7 +177,7 @@ skip_at b false = (refl, tt)
 skip_is_kind : (t : Tile) (b : CurrentBlock) → IsBlock t.bc.blocks.cols t.bc.blocks.rows (place_of_block b) (size_of_block b) → IsKind t (skip_kind t b)
 skip_is_kind t b h = record {
   reads = kind_reads (skip_kind t b) (λ on. Unit {0}) 1 (omega arith) (λ on h g. tt) (λ h. skip_reads t.bc.blocks (place_of_block b));
-  fit = λ on g. skip_fit t.given.fi t.bc.blocks.cols t.bc.blocks.rows t.current b on h;
+  fit = λ on g. skip_fit t b on h;
   at_place = λ on. skip_at b on;
 }
 
@@ -196,9 +188,9 @@ is_kind (OfBlock bo size) t v k = block_is_kind bo size t
 is_kind (OfPartition bo size) t v k = partition_is_kind bo size t v k
 is_kind OfSkip t v k = current_is_kind t t.current Skip (skip_kind t) (λ b e. skip_is_kind t b (k.current b e))
 is_kind OfSegment t v k = current_is_kind t t.current Segment (segment_kind t) (λ b e. segment_is_kind t b (k.current b e))
-is_kind OfIntraModeKf t v k = current_is_kind t t.current IntraModeKf (intra_mode_kf_kind t) (λ b e. intra_mode_kf_is_kind t b (k.current b e))
+is_kind OfIntraModeKf t v k = current_is_kind t t.current IntraModeKf (intra_mode_kf_kind t) (λ b e. intra_mode_kf_is_kind t b e (k.current b e))
 is_kind OfUvMode t v k = current_is_kind t t.current UvMode (uv_mode_kind t) (λ b e. uv_mode_is_kind t b k (k.current b e))
-is_kind OfIntraMode t v k = current_is_kind t t.current IntraMode (intra_mode_kind t) (λ b e. intra_mode_is_kind t b (k.current b e))
+is_kind OfIntraMode t v k = current_is_kind t t.current IntraMode (intra_mode_kind t) (λ b e. intra_mode_is_kind t b e (k.current b e))
 is_kind OfCdef t v k = current_is_kind t t.current Cdef (cdef_kind t) (λ b e. cdef_is_kind t b k (k.current b e))
 is_kind OfDeltaLf t v k = current_is_kind t t.current DeltaLf (delta_lf_kind t) (λ b e. delta_lf_is_kind t b (k.current b e))
 is_kind (OfAngleDelta chroma) t v k = current_is_kind t t.current (AngleDelta chroma) (angle_delta_kind chroma t) (λ b e. angle_delta_is_kind chroma t b)
@@ -208,6 +200,13 @@ is_kind OfPalette t v k = current_is_kind t t.current Palette (palette_kind t) (
 is_kind OfTxNote t v k = current_is_kind t t.current note (tx_note_kind t) (λ b e. tx_note_is_kind t b (k.current b e))
 is_kind OfTxIntra t v k = current_is_kind t t.current TxIntra (tx_intra_kind t) (λ b e. tx_intra_is_kind t b e (k.current b e))
 is_kind OfTxInter t v k = current_is_kind t t.current TxInter (tx_inter_kind t) (λ b e. tx_inter_is_kind t b e (k.current b e))
+is_kind OfIsInter t v k = current_is_kind t t.current IsInter (is_inter_kind t) (λ b e. is_inter_is_kind t b e (k.current b e))
+is_kind OfRefFrames t v k = current_is_kind t t.current RefFrames (ref_frames_kind t) (λ b e. ref_frames_is_kind t b e (k.current b e))
+is_kind OfInterMode t v k = current_is_kind t t.current InterMode (inter_mode_kind t) (λ b e. inter_mode_is_kind t b k e)
+is_kind OfCompoundMode t v k = current_is_kind t t.current CompoundMode (compound_mode_kind t) (λ b e. compound_mode_is_kind t b k e)
+is_kind (OfDrl i) t v k = current_is_kind t t.current (Drl i) (drl_kind i t) (λ b e. drl_is_kind i t b k e)
+is_kind (OfMvRefs has_tr) t v k = current_is_kind t t.current (find has_tr) (mv_refs_kind has_tr t) (λ b e. mv_refs_is_kind has_tr t b k)
+is_kind (OfMv list) t v k = current_is_kind t t.current (Mv list) (mv_kind list t) (λ b e. mv_is_kind list t b k (k.current b e))
 is_kind (OfLumaCoeffs bo) t v k = luma_coeffs_is_kind t k bo
 is_kind (OfChromaCoeffs plane bo given) t v k = chroma_coeffs_is_kind t k plane bo given
 is_kind (OfLrf plane) t v k = lrf_is_kind plane t k
@@ -231,6 +230,13 @@ step_named (Palette on) t = of_current_named Palette (palette_kind t) t.current 
 step_named TxNote t = of_current_named note (tx_note_kind t) t.current (λ b. refl) tt
 step_named (TxIntra tx) t = of_current_named TxIntra (tx_intra_kind t) t.current (λ b. refl) tx
 step_named (TxInter split) t = of_current_named TxInter (tx_inter_kind t) t.current (λ b. refl) split
+step_named (IsInter on) t = of_current_named IsInter (is_inter_kind t) t.current (λ b. refl) on
+step_named (RefFrames rs) t = of_current_named RefFrames (ref_frames_kind t) t.current (λ b. refl) rs
+step_named (InterMode m) t = of_current_named InterMode (inter_mode_kind t) t.current (λ b. refl) m
+step_named (CompoundMode m) t = of_current_named CompoundMode (compound_mode_kind t) t.current (λ b. refl) m
+step_named (Drl i later) t = of_current_named (Drl i) (drl_kind i t) t.current (λ b. refl) later
+step_named (MvRefs has_tr) t = of_current_named (find has_tr) (mv_refs_kind has_tr t) t.current (λ b. refl) tt
+step_named (Mv list mv) t = of_current_named (Mv list) (mv_kind list t) t.current (λ b. refl) mv
 step_named (Coeffs zero x y given levels) t = refl
 step_named (Coeffs (suc plane) x y given levels) t = refl
 step_named (Lrf plane filter) t = refl
@@ -259,6 +265,13 @@ asked OfPalette t a = subst (IsAsked OfPalette t a) (sym (of_current_named Palet
 asked OfTxNote t a = subst (IsAsked OfTxNote t a) (sym (of_current_named note (tx_note_kind t) t.current (λ b. refl) a)) (refl, refl, refl)
 asked OfTxIntra t a = subst (IsAsked OfTxIntra t a) (sym (of_current_named TxIntra (tx_intra_kind t) t.current (λ b. refl) a)) (refl, refl, refl)
 asked OfTxInter t a = subst (IsAsked OfTxInter t a) (sym (of_current_named TxInter (tx_inter_kind t) t.current (λ b. refl) a)) (refl, refl, refl)
+asked OfIsInter t a = subst (IsAsked OfIsInter t a) (sym (of_current_named IsInter (is_inter_kind t) t.current (λ b. refl) a)) (refl, refl, refl)
+asked OfRefFrames t a = subst (IsAsked OfRefFrames t a) (sym (of_current_named RefFrames (ref_frames_kind t) t.current (λ b. refl) a)) (refl, refl, refl)
+asked OfInterMode t a = subst (IsAsked OfInterMode t a) (sym (of_current_named InterMode (inter_mode_kind t) t.current (λ b. refl) a)) (refl, refl, refl)
+asked OfCompoundMode t a = subst (IsAsked OfCompoundMode t a) (sym (of_current_named CompoundMode (compound_mode_kind t) t.current (λ b. refl) a)) (refl, refl, refl)
+asked (OfDrl i) t a = subst (IsAsked (OfDrl i) t a) (sym (of_current_named (Drl i) (drl_kind i t) t.current (λ b. refl) a)) (refl, refl, refl)
+asked (OfMvRefs has_tr) t a = subst (IsAsked (OfMvRefs has_tr) t a) (sym (of_current_named (find has_tr) (mv_refs_kind has_tr t) t.current (λ b. refl) a)) (refl, refl, refl)
+asked (OfMv list) t a = subst (IsAsked (OfMv list) t a) (sym (of_current_named (Mv list) (mv_kind list t) t.current (λ b. refl) a)) (refl, refl, refl)
 asked (OfLumaCoeffs bo) t a = (refl, refl, refl)
 asked (OfChromaCoeffs plane bo given) t a = (refl, refl, refl)
 asked (OfLrf plane) t a = (refl, refl, refl)
@@ -323,6 +336,13 @@ same_rules (Palette on) ns t = of_current_rules Palette (palette_kind (with_numb
 same_rules TxNote ns t = of_current_rules note (tx_note_kind (with_numbers ns t)) (tx_note_kind t) t.current tt (λ b. refl)
 same_rules (TxIntra tx) ns t = of_current_rules TxIntra (tx_intra_kind (with_numbers ns t)) (tx_intra_kind t) t.current tx (λ b. refl)
 same_rules (TxInter split) ns t = of_current_rules TxInter (tx_inter_kind (with_numbers ns t)) (tx_inter_kind t) t.current split (λ b. refl)
+same_rules (IsInter on) ns t = of_current_rules IsInter (is_inter_kind (with_numbers ns t)) (is_inter_kind t) t.current on (λ b. refl)
+same_rules (RefFrames rs) ns t = of_current_rules RefFrames (ref_frames_kind (with_numbers ns t)) (ref_frames_kind t) t.current rs (λ b. refl)
+same_rules (InterMode m) ns t = of_current_rules InterMode (inter_mode_kind (with_numbers ns t)) (inter_mode_kind t) t.current m (λ b. refl)
+same_rules (CompoundMode m) ns t = of_current_rules CompoundMode (compound_mode_kind (with_numbers ns t)) (compound_mode_kind t) t.current m (λ b. refl)
+same_rules (Drl i later) ns t = of_current_rules (Drl i) (drl_kind i (with_numbers ns t)) (drl_kind i t) t.current later (λ b. refl)
+same_rules (MvRefs has_tr) ns t = of_current_rules (find has_tr) (mv_refs_kind has_tr (with_numbers ns t)) (mv_refs_kind has_tr t) t.current tt (λ b. refl)
+same_rules (Mv list mv) ns t = of_current_rules (Mv list) (mv_kind list (with_numbers ns t)) (mv_kind list t) t.current mv (λ b. refl)
 same_rules (Coeffs zero x y given levels) ns t = refl
 same_rules (Coeffs (suc plane) x y given levels) ns t = refl
 same_rules (Lrf plane filter) ns t = refl
@@ -339,7 +359,7 @@ pub kept_past : (t : Tile) (step : TileStep) → AreCdfs t.numbers → IsKept t 
 kept_past t step v k h = kept_after step (context_along coded_by (learnt t.learns) (syntax_of (question_of step) t) (symbols_of step t) t.numbers) t (fits_after step t v k h).1 k h
 
 -- what a step changes fits, whatever the numbers
-pub step_fit : (step : TileStep) (ns : List ℕ) (t : Tile) → AreCdfs ns → IsKept t → IsAllowed step t → AllFit t.given.fi t.bc.blocks.cols t.bc.blocks.rows t.current (effects_of step (with_numbers ns t))
+pub step_fit : (step : TileStep) (ns : List ℕ) (t : Tile) → AreCdfs ns → IsKept t → IsAllowed step t → AllFit (with_numbers ns t) (effects_of step (with_numbers ns t))
 step_fit step ns t v k h =
     let u = with_numbers ns t in
     (is_kind (question_of step) u v (numbers_kept ns t k)).fit (answer_of step) (ap is_none (ap first_broken (same_rules step ns t) ∙ h))
@@ -363,6 +383,13 @@ same_place OfPalette ns t = of_current_places Palette (palette_kind (with_number
 same_place OfTxNote ns t = of_current_places note (tx_note_kind (with_numbers ns t)) (tx_note_kind t) t.current (λ b. refl)
 same_place OfTxIntra ns t = of_current_places TxIntra (tx_intra_kind (with_numbers ns t)) (tx_intra_kind t) t.current (λ b. refl)
 same_place OfTxInter ns t = of_current_places TxInter (tx_inter_kind (with_numbers ns t)) (tx_inter_kind t) t.current (λ b. refl)
+same_place OfIsInter ns t = of_current_places IsInter (is_inter_kind (with_numbers ns t)) (is_inter_kind t) t.current (λ b. refl)
+same_place OfRefFrames ns t = of_current_places RefFrames (ref_frames_kind (with_numbers ns t)) (ref_frames_kind t) t.current (λ b. refl)
+same_place OfInterMode ns t = of_current_places InterMode (inter_mode_kind (with_numbers ns t)) (inter_mode_kind t) t.current (λ b. refl)
+same_place OfCompoundMode ns t = of_current_places CompoundMode (compound_mode_kind (with_numbers ns t)) (compound_mode_kind t) t.current (λ b. refl)
+same_place (OfDrl i) ns t = of_current_places (Drl i) (drl_kind i (with_numbers ns t)) (drl_kind i t) t.current (λ b. refl)
+same_place (OfMvRefs has_tr) ns t = of_current_places (find has_tr) (mv_refs_kind has_tr (with_numbers ns t)) (mv_refs_kind has_tr t) t.current (λ b. refl)
+same_place (OfMv list) ns t = of_current_places (Mv list) (mv_kind list (with_numbers ns t)) (mv_kind list t) t.current (λ b. refl)
 same_place (OfLumaCoeffs bo) ns t = refl
 same_place (OfChromaCoeffs plane bo given) ns t = refl
 same_place (OfLrf plane) ns t = refl
@@ -390,6 +417,13 @@ bare (Palette on) t tried h = current_bare Palette (palette_kind t) t.current (�
 bare TxNote t tried h = current_bare note (tx_note_kind t) t.current (λ b. refl) tt h
 bare (TxIntra tx) t tried h = current_bare TxIntra (tx_intra_kind t) t.current (λ b. refl) tx h
 bare (TxInter split) t tried h = current_bare TxInter (tx_inter_kind t) t.current (λ b. refl) split h
+bare (IsInter on) t tried h = current_bare IsInter (is_inter_kind t) t.current (λ b. refl) on h
+bare (RefFrames rs) t tried h = current_bare RefFrames (ref_frames_kind t) t.current (λ b. refl) rs h
+bare (InterMode m) t tried h = current_bare InterMode (inter_mode_kind t) t.current (λ b. refl) m h
+bare (CompoundMode m) t tried h = current_bare CompoundMode (compound_mode_kind t) t.current (λ b. refl) m h
+bare (Drl i later) t tried h = current_bare (Drl i) (drl_kind i t) t.current (λ b. refl) later h
+bare (MvRefs has_tr) t tried h = current_bare (find has_tr) (mv_refs_kind has_tr t) t.current (λ b. refl) tt h
+bare (Mv list mv) t tried h = current_bare (Mv list) (mv_kind list t) t.current (λ b. refl) mv h
 bare (Coeffs zero x y given levels) t tried h = cc
 bare (Coeffs (suc plane) x y given levels) t tried h = cc
 bare (Lrf plane filter) t tried h = cc

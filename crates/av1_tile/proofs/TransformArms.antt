@@ -30,7 +30,7 @@ use Rattle.av1_tile.specs.Step.{OfTxNote, entered, kind_of}
 use Rattle.av1_tile.specs.Tile.{Tile, CurrentBlock, place_of_block, size_of_block, with_numbers}
 use Rattle.av1_tile.specs.TransformSteps.{standing_at, note, tx_note_kind, tx_intra_kind, inter_tx_size, tx_inter_kind}
 use Rattle.av1_tile.specs.Writing.{Writes}
-use Rattle.av1_tile.proofs.Arms.{writes_whole}
+use Rattle.av1_tile.proofs.Arms.{silent_wrote}
 use Rattle.av1_tile.proofs.Effects.{side_within}
 use Rattle.av1_tile.proofs.OfCurrent.{current_entered, of_current_named}
 use Rattle.av1_tile.proofs.Splitting.{whole_wide, whole_high}
@@ -54,19 +54,11 @@ note_entered t b x whole bc current is skipped sides =
     ∙ current_entered note (tx_note_kind t) t.current b current t tt
 
 -- nothing is coded of it
-note_leads : (t : Tile) (o : Option CurrentBlock) → first_broken (rules_of (of_current o note (tx_note_kind t)) tt) ≡ None → Leads (of_current o note (tx_note_kind t)).element.tree [] tt
-note_leads t None h = let z : ⊥ = cc in absurd z
-note_leads t (Some b) h = refl
-
 pub note_wrote : {W E : Type 0} (writer : Ghosts W) (w : W) (old new : TileState) → IsAllowed TxNote (tile_of old) → tile_of new ≡ entered TxNote (tile_of old) → log_of new ≡ log_of old → AreCdfs (tile_of old).numbers →
     Writes {U = Unit {0}} {E = E} writer (Ok tt) TxNote w w old new
 note_wrote writer w old new allowed tile log cdfs =
     let t = tile_of old in
-    let numbers : (tile_of new).numbers ≡ t.numbers = ap (λ (x : Tile). x.numbers) tile ∙ (entered_same TxNote t).0 in
-    writes_whole writer _ tt refl TxNote (kind_of OfTxNote t) tt w w old new (2 ^ 24) refl (of_current_named note (tx_note_kind t) t.current (λ b. refl) tt) allowed
-    (record { symbols = []; follows = note_leads t t.current allowed; fits = tt; wrote = ap (standing (writer.position w)) numbers })
-    (tile ∙ ap (λ (ns : List ℕ). entered TxNote (with_numbers ns t)) (sym numbers)) (omega arith)
-    (moves_none writer _ _ _ _ _ _ log numbers cdfs)
+    silent_wrote writer TxNote note (tx_note_kind t) w old new refl (of_current_named note (tx_note_kind t) t.current (λ b. refl) tt) (λ b. refl) allowed tile log cdfs
 
 -- the size of an intra block's transforms is entered in the grid and in the edges
 pub tx_intra_entered : (t : Tile) (fc : List ℕ) (b : CurrentBlock) (tx : TxSize) (bc edges : BlockContext) (grid : Grid) → t.current ≡ Some b → bc ≡ t.bc → grid ≡ over (place_of_block b) (size_of_block b) (λ x. record x { txsize = tx }) bc.blocks →

@@ -1,6 +1,7 @@
 -- What the steps of the sizes of transforms bring.
 use Rattle.std.proofs.Common.{◌≡◌, ◌≤◌, ◌||◌, Bool, true, false, IsTrue, None, Some, refl, sym, subst, arith, inl, inr, ◌⊎◌}
 use Rattle.av1_blocks.specs.declared.block.Block.{Block}
+use Rattle.av1_blocks.specs.Grid.{Grid}
 use Rattle.av1_cdf.specs.Distribution.{HasSymbols}
 use Rattle.av1_geometry.specs.BlockSize.{number_of}
 use Rattle.av1_geometry.specs.BlockTables.{max_tx_size}
@@ -17,9 +18,10 @@ use Rattle.av1_tile.specs.Kept.{IsBlock, IsEntered}
 use Rattle.av1_tile.specs.Kind.{rules_of, IsKind}
 use Rattle.av1_tile.specs.Tile.{Tile, CurrentBlock, place_of_block, size_of_block}
 use Rattle.av1_tile.specs.TransformSteps.{has_tx_choice, inter_tx_size, tx_note_kind, tx_intra_kind, tx_inter_kind}
-use Rattle.av1_tile.proofs.Effects.{largest_sides}
+use Rattle.av1_tile.proofs.Effects.{largest_sides, still_sound}
 use Rattle.av1_tile.proofs.KindLaws.{kind_reads, none_is}
 use Rattle.av1_tile.proofs.Places.{all_hold, both, is_at_most}
+use Rattle.av1_tile.proofs.Splitting.{split_blocks}
 
 pub tx_note_is_kind : (t : Tile) (b : CurrentBlock) → IsBlock t.bc.blocks.cols t.bc.blocks.rows (place_of_block b) (size_of_block b) → IsKind t (tx_note_kind t b)
 tx_note_is_kind t b h = record {
@@ -79,7 +81,7 @@ tx_intra_is_kind t b e s = record {
       (λ h. tx_size_reads t.bc (place_of_block b) (size_of_block b) (larger t (size_of_block b) (all_hold (tx_intra_kind t b).asking (none_is _ h)).1.1.0));
   fit = λ tx g.
       let no_longer = offered_no_longer (max_tx_size (size_of_block b)) tx (tx_intra_allowed t b tx (none_is _ g)).1 in
-      ((s, λ x fine. record { mode = fine.mode; segment = fine.segment }, still_entered t b tx e no_longer), (s, tt));
+      ((s, λ x like fine. record { mode = fine.mode; segment = fine.segment; sound = still_sound x x.skip x.cdef_index x.segmentation_idx x.deblock_deltas tx fine.sound }, still_entered t b tx e no_longer, λ c is. inl (λ x. refl)), (s, tt));
   at_place = λ tx. (refl, (refl, tt));
 }
 
@@ -96,6 +98,6 @@ pub tx_inter_is_kind : (t : Tile) (b : CurrentBlock) → t.current ≡ Some b �
 tx_inter_is_kind t b e s = record {
   reads = kind_reads (tx_inter_kind t b) (λ split. Unit {0}) 5 (omega arith) (λ split g r. tt)
       (λ g. split_reads t.bc (place_of_block b) (size_of_block b) 0 0 (larger t (size_of_block b) (both _ _ (all_hold (tx_inter_kind t b).asking (none_is _ g)).1.1.1.0).0) s.width s.height);
-  fit = λ split g. (s, ((s, λ x fine. record { mode = fine.mode; segment = fine.segment }, still_entered t b (inter_tx_size (size_of_block b) split) e (inter_no_longer (size_of_block b) split)), tt));
+  fit = λ split g. (s, ((subst (λ (grid : Grid). IsBlock grid.cols grid.rows (place_of_block b) (size_of_block b)) (sym (split_blocks (place_of_block b) (size_of_block b) split t.bc)) s, λ x like fine. record { mode = fine.mode; segment = fine.segment; sound = still_sound x x.skip x.cdef_index x.segmentation_idx x.deblock_deltas (inter_tx_size (size_of_block b) split) fine.sound }, still_entered t b (inter_tx_size (size_of_block b) split) e (inter_no_longer (size_of_block b) split), λ c is. inl (λ x. refl)), tt));
   at_place = λ split. (refl, (refl, tt));
 }

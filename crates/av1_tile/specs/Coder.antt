@@ -1,6 +1,7 @@
 -- A tile on its way stands for how far its script has come.
 use Rattle.std.specs.Prelude.{◌≡◌, ℕ, ◌+◌, ◌*◌, ◌^◌, ◌≤◌, List, [], ◌∷◌, ◌++◌, false, length}
 use Rattle.av1_ec.specs.declared.known.Known.{Ghosts}
+use Rattle.av1_ec.specs.Recorder.{tokens_at}
 use Rattle.av1_model.specs.Eighths.{eighths}
 use Rattle.av1_model.specs.Interval.{Interval, Token, whole}
 use Rattle.av1_model.specs.Position.{Position, advance_all, encoder_at}
@@ -30,6 +31,10 @@ begun_of (t ∷ ts) costs = begun_of ts costs ++ length (all_costs ts costs) ∷
 -- of a writer that has stored nothing
 abbrev pub IsNew : Position → Type 0
 IsNew p = (p.range ≡ 32768) × (p.shift ≡ 0) × (p.fake ≡ 0)
+
+-- a new encoder got a recorder's tokens
+abbrev pub IsReplayed : Position → Position → Type 0
+IsReplayed recorder encoder = encoder ≡ advance_all (encoder_at whole) (tokens_at recorder)
 
 -- a writer that was new at `start` stored tokens by which a new encoder comes to this interval
 pub record HasCoded (start position : Position) (i : Interval) : Type 0 where

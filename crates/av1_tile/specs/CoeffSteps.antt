@@ -114,11 +114,15 @@ transform_of t b plane bo =
       height = rows_inside t plane bo size;
     }
 
--- the type of a transform block and its levels in the order of the scan; chroma has the given type
-abbrev pub coeffs_by : Tile → ℕ → BlockOffset → TxType → TransformBlock → Element Distribution (TxType × List ℤ)
-coeffs_by t plane bo given b =
-    coeffs_element plane b.tx_size b.mode t.given.fi.use_reduced_tx_set given (block_contexts t.bc plane bo b.plane_bsize b.tx_size b.xdec b.ydec b.width b.height)
+-- the type of a transform block and its levels in the order of the scan, where the class of their end goes by the coded size or by the
+-- whole; chroma has the given type
+abbrev pub coeffs_in : Bool → Tile → ℕ → BlockOffset → TxType → TransformBlock → Element Distribution (TxType × List ℤ)
+coeffs_in by_coded t plane bo given b =
+    coeffs_element by_coded plane b.tx_size b.mode t.given.fi.use_reduced_tx_set given (block_contexts t.bc plane bo b.plane_bsize b.tx_size b.xdec b.ydec b.width b.height)
     (scan_of t.given.scans b.tx_size)
+
+abbrev pub coeffs_by : Tile → ℕ → BlockOffset → TxType → TransformBlock → Element Distribution (TxType × List ℤ)
+coeffs_by t plane bo given b = coeffs_in t.given.eob_by_coded t plane bo given b
 
 abbrev pub coeffs_of : Tile → CurrentBlock → ℕ → BlockOffset → TxType → Element Distribution (TxType × List ℤ)
 coeffs_of t b plane bo given = coeffs_by t plane bo given (transform_of t b plane bo)

@@ -8,6 +8,7 @@ use Rattle.av1_geometry.specs.declared.block_size.BlockSize.{BlockSize}
 use Rattle.av1_geometry.specs.declared.prediction_mode.PredictionMode.{PredictionMode}
 use Rattle.av1_geometry.specs.BlockTables.{max_tx_size}
 use Rattle.av1_geometry.specs.ChromaSampling.{xdec_of, ydec_of, planes_of}
+use Rattle.av1_mvref.specs.ExtraSearch.{Candidates}
 use Rattle.av1_syntax.specs.Restoration.{plane_at, renewed}
 use Rattle.av1_syntax.specs.declared.restoration.RestorationFilter.{RestorationFilter}
 use Rattle.av1_syntax.specs.TransformSizes.{entered_split}
@@ -29,10 +30,14 @@ pub data Effect : Type 0 where
   NewRow : Effect
   -- whether the enhancement filter of the superblock is coded
   CdefCoded : Bool → Effect
-  -- a block is entered in the grid and becomes the current one, without a chroma mode
+  -- a block is entered in the grid and becomes the current one, without a chroma mode and candidates
   Become : CurrentBlock → Effect
   -- the chroma mode of the current block
   ChromaMode : PredictionMode → Effect
+  -- the candidates of the current block and the context of its mode, or none
+  Listed : Option Candidates → Effect
+  -- which candidate the mode of the current block takes
+  Picked : ℕ → Effect
   -- the coefficient edges of a plane over a transform block: its place, its size, and the entry
   Filled : ℕ → BlockOffset → TxSize → ℕ → Effect
   -- the next filters of a plane refer to this one
@@ -53,8 +58,12 @@ changed_by (Become b) t = record t {
   bc = record t.bc { blocks = over (place_of_block b) (size_of_block b) (λ x. new_block (size_of_block b)) t.bc.blocks };
   current = Some b;
   uv = None;
+  cands = None;
+  pick = 0;
 }
 changed_by (ChromaMode m) t = record t { uv = Some m }
+changed_by (Listed c) t = record t { cands = c }
+changed_by (Picked n) t = record t { pick = n }
 changed_by (Filled plane bo size entry) t = record t { bc = with_coefficients plane bo size (halvings (xdec_of (sampling t)) plane) (halvings (ydec_of (sampling t)) plane) entry t.bc }
 changed_by (Referred plane filter) t = record t { rs = record { planes = slice_set t.rs.planes plane (renewed (nat_eq plane 0) filter (plane_at t.rs plane)) } }
 

@@ -1,5 +1,5 @@
 -- What a reader is given of a unit: nothing of its scripts. And where the tiles of a frame lie.
-use Rattle.std.specs.Prelude.{◌≡◌, ℕ, ◌+◌, ◌-◌, ◌*◌, ◌/◌, ◌%◌, ◌^◌, ◌≤◌, min, List, Bool, Option, None}
+use Rattle.std.specs.Prelude.{◌≡◌, ℕ, ◌-◌, ◌*◌, ◌/◌, ◌%◌, ◌^◌, ◌≤◌, min, List, Bool, not, Option, None}
 use Rattle.av1_cdf.specs.Tables.{table_rules}
 use Rattle.av1_coef.specs.Scans.{scans_rules}
 use Rattle.av1_frame.specs.declared.frame.FrameInvariants.{FrameInvariants}
@@ -22,9 +22,14 @@ pub record Given : Type 0 where
   pub refs : List (Option RefState)
   pub metadata : List Metadata
   pub delimiter : Bool
+  pub eob_by_coded : Bool
 
 abbrev pub given_of : Unit → Given
-given_of u = record { tables = u.tables; scans = u.scans; fi = u.fi; fs = u.fs; refs = u.refs; metadata = u.metadata.items; delimiter = u.delimiter }
+given_of u = record { tables = u.tables; scans = u.scans; fi = u.fi; fs = u.fs; refs = u.refs; metadata = u.metadata.items; delimiter = u.delimiter; eob_by_coded = u.eob_by_coded }
+
+-- whether the distributions of a frame learn
+abbrev pub learns_of : FrameInvariants → Bool
+learns_of fi = not fi.disable_cdf_update
 
 -- the first rule that scans break
 unfoldable pub broken_scan_rule : List (List (List ℕ)) → Option Rule

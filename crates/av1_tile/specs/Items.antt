@@ -24,6 +24,11 @@ use Rattle.av1_tile.specs.Writing.{WroteStep}
 abbrev pub IsNearLast : List TrialMark → BlockOffset → Type 0
 IsNearLast marks place = (outer : List TrialMark) (m : TrialMark) → marks ≡ outer ++ m ∷ [] → IsTrue (same_superblock place m.place.0)
 
+-- a step can come after so many bits: it has no fault, it comes outside of all trials if no trial has it, and it is in the superblock of the last mark
+abbrev pub MayStep : Tile → ℕ → List TrialMark → TileStep → Type 0
+MayStep t bits marks step =
+    (step_fault t bits step ≡ None) × (is_untried step ≡ true → marks ≡ []) × ForSome (place_of (Step step) t) (IsNearLast marks)
+
 -- An item can come after so many bits: a step has no fault, a trial that ends has begun, one that begins does so inside the tile, the item is in the superblock of the
 -- last mark, and what no trial has comes outside of all trials.
 pub record CanCome (t : Tile) (bits : ℕ) (marks : List TrialMark) (item : Item) : Type 0 where

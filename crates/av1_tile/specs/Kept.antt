@@ -2,7 +2,10 @@
 use Rattle.std.specs.Prelude.{◌≡◌, ℕ, ◌+◌, ◌-◌, ◌*◌, ◌/◌, ◌%◌, ◌^◌, ◌<◌, ◌≤◌, ◌⊎◌, IsTrue, length, nat_eq, slice_index_or, List, [], ◌∷◌, true, Option, Some, None}
 use Rattle.std.specs.Option.{ForSome}
 use Rattle.av1_blocks.specs.declared.block.Block.{Block}
+use Rattle.av1_blocks.specs.Block.{is_inter}
 use Rattle.av1_blocks.specs.Edges.{HasEdges, halvings}
+use Rattle.av1_blocks.specs.Grid.{covers}
+use Rattle.av1_blocks.specs.Sound.{IsSound as IsSoundBlock}
 use Rattle.av1_blocks.specs.declared.block.TheConstants.Block.{DEFAULT}
 use Rattle.av1_geometry.specs.declared.block_offset.BlockOffset.{BlockOffset}
 use Rattle.av1_geometry.specs.declared.block_size.BlockSize.{BlockSize}
@@ -10,13 +13,17 @@ use Rattle.av1_geometry.specs.declared.chroma_sampling.ChromaSampling.{ChromaSam
 use Rattle.av1_geometry.specs.declared.tx_size.TxSize.{TxSize}
 use Rattle.av1_geometry.specs.BlockSize.{width_log2, height_log2, width_mi, height_mi}
 use Rattle.av1_geometry.specs.ChromaSampling.{xdec_of, ydec_of, planes_of}
+use Rattle.av1_geometry.specs.MotionVector.{IsValid}
 use Rattle.av1_geometry.specs.PredictionMode.{prediction_mode_number}
 use Rattle.av1_geometry.specs.TxSize.{tx_width_log2, tx_height_log2}
 use Rattle.av1_frame.specs.declared.frame.FrameInvariants.{FrameInvariants}
 use Rattle.av1_frame.specs.declared.state.FrameState.{FrameState}
+use Rattle.av1_mvref.specs.declared.candidate.CandidateMV.{CandidateMV}
+use Rattle.av1_mvref.specs.Candidates.{no_vector}
+use Rattle.av1_mvref.specs.ExtraSearch.{Candidates}
 use Rattle.av1_syntax.specs.Restoration.{plane_at, HasReferences, IsFilterOf}
 use Rattle.av1_syntax.specs.declared.restoration.TileRestorationState.{TileRestorationState}
-use Rattle.av1_tile.specs.Effect.{Effect, Over, Parted, Unfilled, Transformed, SplitTransform, NewRow, CdefCoded, Become, ChromaMode, Filled, Referred}
+use Rattle.av1_tile.specs.Effect.{Effect, Over, Parted, Unfilled, Transformed, SplitTransform, NewRow, CdefCoded, Become, ChromaMode, Listed, Picked, Filled, Referred, changed_by}
 use Rattle.av1_tile.specs.Given.{IsGiven, tile_count, tile_cols, tile_rows}
 use Rattle.av1_tile.specs.Tile.{Tile, CurrentBlock, grid_block, has_chroma_size, lrf_type_of, place_of_block, sampling, size_of_block}
 
@@ -36,21 +43,39 @@ pub record IsBlock (cols rows : ℕ) (bo : BlockOffset) (size : BlockSize) : Typ
   pub height : height_log2 size ≤ 6
   pub aligned : (bo.x % width_mi size ≡ 0) × (bo.y % height_mi size ≡ 0)
 
--- a block of the grid: in an intra frame, or where it is predicted within the frame, its mode is one of the thirteen of luma, and its segment is one of the eight
+-- a block of the grid: in an intra frame, or where it is predicted within the frame, its mode is one of the thirteen of luma, its segment is one of the eight, and it is
+-- one that vectors and references may be looked for in
 pub record IsFine (fi : FrameInvariants) (b : Block) : Type 0 where
   pub mode : IsTrue fi.intra_only ⊎ (prediction_mode_number b.mode < 14) → prediction_mode_number b.mode < 13
   pub segment : b.segmentation_idx ≤ 7
+  pub sound : IsSoundBlock b
 
 -- a block of the grid where a block of a size was entered: it has the size, and a transform that is no longer on either side
 abbrev pub IsEntered : BlockSize → Block → Type 0
 IsEntered size x =
     (x.bsize ≡ size) × (x.n4_w ≡ width_mi size) × (x.n4_h ≡ height_mi size) × (tx_width_log2 x.txsize ≤ width_log2 size) × (tx_height_log2 x.txsize ≤ height_log2 size)
 
+-- the blocks of the part of a block that is inside the tile are all predicted from other frames, or none is
+abbrev pub IsAlike : Tile → CurrentBlock → Type 0
+IsAlike t b =
+    (k : ℕ) → k < length t.bc.blocks.frame.blocks → covers t.bc.blocks (place_of_block b) (size_of_block b) k ≡ true
+    → is_inter (slice_index_or t.bc.blocks.frame.blocks k DEFAULT) ≡ is_inter (grid_block t b)
+
 -- what the filters of the three planes refer to: each plane has the type that the frame says, and its references are in their ranges
 pub record HasPlanes (fs : FrameState) (rs : TileRestorationState) : Type 0 where
   pub three : length rs.planes ≡ 3
   pub types : (plane : ℕ) → plane < 3 → (plane_at rs plane).lrf_type ≡ lrf_type_of fs plane
   pub references : (plane : ℕ) → plane < 3 → HasReferences (plane_at rs plane)
+
+-- one of the candidates; there is no vector past the last
+abbrev pub candidate_at : List CandidateMV → ℕ → CandidateMV
+candidate_at list i = slice_index_or list i record { this_mv = no_vector; comp_mv = no_vector; weight = 0 }
+
+-- candidates of valid vectors, with a context of a mode
+pub record AreCandidates (c : Candidates) : Type 0 where
+  pub vectors : (i : ℕ) → IsValid (candidate_at c.list i).this_mv × IsValid (candidate_at c.list i).comp_mv
+  pub new_context : c.context % 16 ≤ 5
+  pub ref_context : c.context / 16 ≤ 5
 
 pub record IsKept (t : Tile) : Type 0 where
   pub given : IsGiven t.given
@@ -60,8 +85,10 @@ pub record IsKept (t : Tile) : Type 0 where
   pub current : ForSome t.current (λ b. IsBlock t.bc.blocks.cols t.bc.blocks.rows (place_of_block b) (size_of_block b))
   pub coded : ForSome t.current (λ b. has_chroma_size (sampling t) (size_of_block b) ≡ true)
   pub entered : ForSome t.current (λ b. IsEntered (size_of_block b) (grid_block t b))
+  pub alike : ForSome t.current (IsAlike t)
   pub fine : (k : ℕ) → k < length t.bc.blocks.frame.blocks → IsFine t.given.fi (slice_index_or t.bc.blocks.frame.blocks k DEFAULT)
   pub planes : HasPlanes t.given.fs t.rs
+  pub cands : ForSome t.cands AreCandidates
 
 -- a transform block of a plane lies in the part of the plane that its superblock has
 pub record IsTransform (cs : ChromaSampling) (plane : ℕ) (bo : BlockOffset) (size : TxSize) : Type 0 where
@@ -69,30 +96,37 @@ pub record IsTransform (cs : ChromaSampling) (plane : ℕ) (bo : BlockOffset) (s
   pub columns : bo.x % 16 / 2 ^ halvings (xdec_of cs) plane + 2 ^ (tx_width_log2 size - 2) ≤ 16 / 2 ^ halvings (xdec_of cs) plane
   pub rows : bo.y % 16 / 2 ^ halvings (ydec_of cs) plane + 2 ^ (tx_height_log2 size - 2) ≤ 16 / 2 ^ halvings (ydec_of cs) plane
 
--- an effect lies in a tile of so many columns and rows, and leaves what every state keeps
-abbrev pub Fits : FrameInvariants → ℕ → ℕ → Option CurrentBlock → Effect → Type 0
-Fits fi cols rows current (Over bo size f) =
-    IsBlock cols rows bo size × ((b : Block) → IsFine fi b → IsFine fi (f b))
-    × ((b : CurrentBlock) → current ≡ Some b → (x : Block) → IsEntered (size_of_block b) x → IsEntered (size_of_block b) (f x))
-Fits fi cols rows current (Parted bo size subsize) = IsBlock cols rows bo size
-Fits fi cols rows current (Unfilled bo size) = IsBlock cols rows bo size
-Fits fi cols rows current (Transformed bo size width height) = IsBlock cols rows bo size
-Fits fi cols rows current (SplitTransform bo size split) = IsBlock cols rows bo size
-Fits fi cols rows current NewRow = Unit {0}
-Fits fi cols rows current (CdefCoded coded) = Unit {0}
-Fits fi cols rows current (Become b) = IsBlock cols rows (place_of_block b) (size_of_block b) × (has_chroma_size fi.sequence.chroma_sampling (size_of_block b) ≡ true)
-Fits fi cols rows current (ChromaMode m) = Unit {0}
-Fits fi cols rows current (Filled plane bo size entry) = IsTransform fi.sequence.chroma_sampling plane bo size
-Fits fi cols rows current (Referred plane filter) = (plane < 3) × (lrf_type : ℕ) × IsFilterOf lrf_type (nat_eq plane 0) filter
+-- a block of the tile that is like those of the area of a change: where that is the area of the current block, it is predicted from other frames exactly where the one at its place is
+abbrev pub IsLike : Tile → BlockOffset → BlockSize → Block → Type 0
+IsLike t bo size x = ForSome t.current (λ b. bo ≡ place_of_block b → size ≡ size_of_block b → is_inter x ≡ is_inter (grid_block t b))
 
--- the current block after an effect
-abbrev pub current_after : Effect → Option CurrentBlock → Option CurrentBlock
-current_after (Become b) current = Some b
-current_after e current = current
+-- a change leaves whether a block is predicted from other frames, or says it for the whole area of a block
+abbrev pub LeavesAlike : CurrentBlock → BlockOffset → BlockSize → (Block → Block) → Type 0
+LeavesAlike b bo size f =
+    ((x : Block) → is_inter (f x) ≡ is_inter x) ⊎ ((bo ≡ place_of_block b) × (size ≡ size_of_block b) × ((x y : Block) → is_inter (f x) ≡ is_inter (f y)))
 
-abbrev pub AllFit : FrameInvariants → ℕ → ℕ → Option CurrentBlock → List Effect → Type 0
-AllFit fi cols rows current [] = Unit {0}
-AllFit fi cols rows current (e ∷ es) = Fits fi cols rows current e × AllFit fi cols rows (current_after e current) es
+-- an effect lies in the tile, and leaves what every state keeps
+abbrev pub Fits : Tile → Effect → Type 0
+Fits t (Over bo size f) =
+    IsBlock t.bc.blocks.cols t.bc.blocks.rows bo size × ((x : Block) → IsLike t bo size x → IsFine t.given.fi x → IsFine t.given.fi (f x))
+    × ForSome t.current (λ b. (x : Block) → IsEntered (size_of_block b) x → IsEntered (size_of_block b) (f x)) × ForSome t.current (λ b. LeavesAlike b bo size f)
+Fits t (Parted bo size subsize) = IsBlock t.bc.blocks.cols t.bc.blocks.rows bo size
+Fits t (Unfilled bo size) = IsBlock t.bc.blocks.cols t.bc.blocks.rows bo size
+Fits t (Transformed bo size width height) = IsBlock t.bc.blocks.cols t.bc.blocks.rows bo size
+Fits t (SplitTransform bo size split) = IsBlock t.bc.blocks.cols t.bc.blocks.rows bo size
+Fits t NewRow = Unit {0}
+Fits t (CdefCoded coded) = Unit {0}
+Fits t (Become b) = IsBlock t.bc.blocks.cols t.bc.blocks.rows (place_of_block b) (size_of_block b) × (has_chroma_size (sampling t) (size_of_block b) ≡ true)
+Fits t (ChromaMode m) = Unit {0}
+Fits t (Listed c) = ForSome c AreCandidates
+Fits t (Picked n) = Unit {0}
+Fits t (Filled plane bo size entry) = IsTransform (sampling t) plane bo size
+Fits t (Referred plane filter) = (plane < 3) × (lrf_type : ℕ) × IsFilterOf lrf_type (nat_eq plane 0) filter
+
+-- effects fit one after another
+abbrev pub AllFit : Tile → List Effect → Type 0
+AllFit t [] = Unit {0}
+AllFit t (e ∷ es) = Fits t e × AllFit (changed_by e t) es
 
 -- an effect on blocks or edges is one at a place; one on restoration filters is that of a step without a place
 abbrev pub IsAt : Option BlockOffset → Effect → Type 0

@@ -44,7 +44,7 @@ steps k = bind (answers k).tree (λ a. Done (k.step a))
 -- lies in the tile, leaves what every state keeps, and is at the step's place.
 pub record IsKind {A : Type 0} (t : Tile) (k : Kind A) : Type 0 where
   pub reads : Reads HasSymbols (answers k) (λ a. holds (rules_of k a) ≡ true) (2 ^ 20)
-  pub fit : (a : A) → holds (rules_of k a) ≡ true → AllFit t.given.fi t.bc.blocks.cols t.bc.blocks.rows t.current (k.effects a)
+  pub fit : (a : A) → holds (rules_of k a) ≡ true → AllFit t (k.effects a)
   pub at_place : (a : A) → AllAt k.place (k.effects a)
 
 -- a kind of step of a block, which has the block's place

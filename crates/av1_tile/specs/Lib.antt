@@ -5,11 +5,14 @@ pub mod DeltaSteps
 pub mod Effect
 pub mod FilterSteps
 pub mod Given
+pub mod InterSteps
 pub mod IntraSteps
 pub mod Items
 pub mod Kept
 pub mod Kind
+pub mod Listed
 pub mod Marks
+pub mod ModeSteps
 pub mod Place
 pub mod RestorationSteps
 pub mod Script
@@ -20,4 +23,5 @@ pub mod Tile
 pub mod TileBytes
 pub mod TransformSteps
 pub mod Trials
+pub mod VectorSteps
 pub mod Writing

@@ -16,6 +16,7 @@ use Rattle.av1_geometry.specs.declared.block_offset.TileBlockOffset.{TileBlockOf
 use Rattle.av1_tile.specs.declared.tile.TileState.{TileState}
 use Rattle.av1_tile.specs.declared.trial.TrialMark.{TrialMark}
 use Rattle.av1_tile.specs.Kept.{IsKept}
+use Rattle.av1_tile.specs.Place.{candidates_in}
 use Rattle.av1_tile.specs.State.{tile_of, log_of}
 use Rattle.av1_tile.specs.Tile.{Tile, sampling}
 use Rattle.av1_tile.specs.Trials.{same_superblock}
@@ -27,6 +28,8 @@ back_to m log t = record t {
   bc = gone_back m.context.bc m.blocks t.bc;
   current = m.current;
   uv = m.uv;
+  cands = candidates_in m.cands;
+  pick = m.pick;
 }
 
 -- a mark keeps what a superblock of the tile has
@@ -49,6 +52,8 @@ pub record IsMarkOf {W : Type 0} (writer : Ghosts W) (w : W) (log : CDFContextLo
   pub blocks : m.blocks ≡ saved_of (record { x = place.0.x / 16; y = place.0.y / 16 }) tile.bc.blocks
   pub current_is : m.current ≡ tile.current
   pub uv_is : m.uv ≡ tile.uv
+  pub cands_are : candidates_in m.cands ≡ tile.cands
+  pub pick_is : m.pick ≡ tile.pick
   pub of_tile : IsOfTile m tile
   pub back : back_to m log tile ≡ tile
 

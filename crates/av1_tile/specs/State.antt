@@ -10,7 +10,7 @@ use Rattle.av1_tile.specs.Place.{tile_at}
 use Rattle.av1_tile.specs.Tile.{Tile, CurrentBlock}
 
 abbrev pub tile_of : TileState → Tile
-tile_of s = tile_at s.unit.now s.number s.cw s.rs s.current s.uv
+tile_of s = tile_at s.unit.now s.number s.cw s.rs s.current s.uv s.cands s.pick
 
 -- what can be undone of its numbers
 abbrev pub log_of : TileState → CDFContextLog

@@ -5,8 +5,10 @@ use Rattle.av1_cdf.specs.Distribution.{Distribution}
 use Rattle.av1_geometry.specs.Rules.{Check, first_broken, rule}
 use Rattle.av1_geometry.specs.declared.block_offset.BlockOffset.{BlockOffset}
 use Rattle.av1_geometry.specs.declared.block_size.BlockSize.{BlockSize}
+use Rattle.av1_geometry.specs.declared.motion_vector.MotionVector.{MotionVector}
 use Rattle.av1_geometry.specs.declared.partition_type.PartitionType.{PartitionType}
 use Rattle.av1_geometry.specs.declared.prediction_mode.PredictionMode.{PredictionMode}
+use Rattle.av1_geometry.specs.declared.ref_type.RefType.{RefType}
 use Rattle.av1_geometry.specs.declared.tx_size.TxSize.{TxSize}
 use Rattle.av1_geometry.specs.declared.tx_type.TxType.{TxType}
 use Rattle.av1_geometry.specs.BlockSize.{width_log2, height_log2, width_mi, height_mi}
@@ -20,15 +22,18 @@ use Rattle.av1_syntax.specs.Partition.{has_cols, has_rows, is_allowed, partition
 use Rattle.av1_tile.specs.declared.error.StepFault.{StepFault}
 use Rattle.av1_tile.specs.declared.error.StepFault.TheVariants.{TooLong, Broken}
 use Rattle.av1_tile.specs.declared.unit.TileStep.{TileStep}
-use Rattle.av1_tile.specs.declared.unit.TileStep.TheVariants.{RowStart, Block, Partition, Skip, IntraModeKf, UvMode, IntraMode, Cdef, FilterIntra, Palette, Lrf, Segment, DeltaLf, AngleDelta, CflAlphas, TxNote, TxIntra, TxInter, Coeffs}
+use Rattle.av1_tile.specs.declared.unit.TileStep.TheVariants.{RowStart, Block, Partition, Skip, IntraModeKf, UvMode, IntraMode, Cdef, FilterIntra, Palette, Lrf, Segment, DeltaLf, AngleDelta, CflAlphas, TxNote, TxIntra, TxInter, IsInter, RefFrames, Coeffs, InterMode, CompoundMode, Drl, MvRefs, Mv}
 use Rattle.av1_tile.specs.AngleSteps.{angle_delta_kind, cfl_alphas_kind}
 use Rattle.av1_tile.specs.DeltaSteps.{segment_kind, delta_lf_kind}
 use Rattle.av1_tile.specs.CoeffSteps.{chroma_coeffs_kind, luma_coeffs_kind}
 use Rattle.av1_tile.specs.Effect.{Effect, Over, Parted, Unfilled, NewRow, Become, changed_by_all}
+use Rattle.av1_tile.specs.InterSteps.{is_inter_kind, ref_frames_kind}
 use Rattle.av1_tile.specs.IntraSteps.{intra_mode_kf_kind, uv_mode_kind, intra_mode_kind}
 use Rattle.av1_tile.specs.FilterSteps.{cdef_kind, filter_intra_kind, palette_kind}
+use Rattle.av1_tile.specs.ModeSteps.{inter_mode_kind, compound_mode_kind, drl_kind}
 use Rattle.av1_tile.specs.RestorationSteps.{lrf_kind}
 use Rattle.av1_tile.specs.TransformSteps.{note, tx_note_kind, tx_intra_kind, tx_inter_kind}
+use Rattle.av1_tile.specs.VectorSteps.{find, mv_refs_kind, mv_kind}
 use Rattle.av1_tile.specs.Kind.{Kind, answers, rules_of, steps, of_block, of_current}
 use Rattle.av1_tile.specs.Tile.{Tile, CurrentBlock, has_chroma_size, is_inside, place_of_block, size_of_block, sampling}
 
@@ -104,6 +109,13 @@ pub data Question : Type 0 where
   OfTxNote : Question
   OfTxIntra : Question
   OfTxInter : Question
+  OfIsInter : Question
+  OfRefFrames : Question
+  OfInterMode : Question
+  OfCompoundMode : Question
+  OfDrl : ℕ → Question
+  OfMvRefs : Bool → Question
+  OfMv : ℕ → Question
   OfLumaCoeffs : BlockOffset → Question
   -- the plane less 1, and the type of the transform, which is not coded there
   OfChromaCoeffs : ℕ → BlockOffset → TxType → Question
@@ -128,6 +140,13 @@ Answer OfPalette = Bool
 Answer OfTxNote = Unit {0}
 Answer OfTxIntra = TxSize
 Answer OfTxInter = Bool
+Answer OfIsInter = Bool
+Answer OfRefFrames = RefType × RefType
+Answer OfInterMode = PredictionMode
+Answer OfCompoundMode = PredictionMode
+Answer (OfDrl i) = Bool
+Answer (OfMvRefs has_tr) = Unit {0}
+Answer (OfMv list) = MotionVector
 Answer (OfLumaCoeffs bo) = TxType × List ℤ
 Answer (OfChromaCoeffs plane bo given) = List ℤ
 Answer (OfLrf plane) = RestorationFilter
@@ -150,6 +169,13 @@ question_of (Palette on) = OfPalette
 question_of TxNote = OfTxNote
 question_of (TxIntra tx) = OfTxIntra
 question_of (TxInter split) = OfTxInter
+question_of (IsInter on) = OfIsInter
+question_of (RefFrames rs) = OfRefFrames
+question_of (InterMode m) = OfInterMode
+question_of (CompoundMode m) = OfCompoundMode
+question_of (Drl i later) = OfDrl i
+question_of (MvRefs has_tr) = OfMvRefs has_tr
+question_of (Mv list mv) = OfMv list
 question_of (Coeffs zero x y t levels) = OfLumaCoeffs record { x = x; y = y }
 question_of (Coeffs (suc plane) x y t levels) = OfChromaCoeffs plane record { x = x; y = y } t
 question_of (Lrf plane filter) = OfLrf plane
@@ -172,6 +198,13 @@ answer_of (Palette on) = on
 answer_of TxNote = tt
 answer_of (TxIntra tx) = tx
 answer_of (TxInter split) = split
+answer_of (IsInter on) = on
+answer_of (RefFrames rs) = rs
+answer_of (InterMode m) = m
+answer_of (CompoundMode m) = m
+answer_of (Drl i later) = later
+answer_of (MvRefs has_tr) = tt
+answer_of (Mv list mv) = mv
 answer_of (Coeffs zero x y t levels) = (t, levels)
 answer_of (Coeffs (suc plane) x y t levels) = levels
 answer_of (Lrf plane filter) = filter
@@ -194,6 +227,13 @@ kind_of OfPalette t = of_current t.current Palette (palette_kind t)
 kind_of OfTxNote t = of_current t.current note (tx_note_kind t)
 kind_of OfTxIntra t = of_current t.current TxIntra (tx_intra_kind t)
 kind_of OfTxInter t = of_current t.current TxInter (tx_inter_kind t)
+kind_of OfIsInter t = of_current t.current IsInter (is_inter_kind t)
+kind_of OfRefFrames t = of_current t.current RefFrames (ref_frames_kind t)
+kind_of OfInterMode t = of_current t.current InterMode (inter_mode_kind t)
+kind_of OfCompoundMode t = of_current t.current CompoundMode (compound_mode_kind t)
+kind_of (OfDrl i) t = of_current t.current (Drl i) (drl_kind i t)
+kind_of (OfMvRefs has_tr) t = of_current t.current (find has_tr) (mv_refs_kind has_tr t)
+kind_of (OfMv list) t = of_current t.current (Mv list) (mv_kind list t)
 kind_of (OfLumaCoeffs bo) t = luma_coeffs_kind t t.current bo
 kind_of (OfChromaCoeffs plane bo given) t = chroma_coeffs_kind t t.current (suc plane) bo given
 kind_of (OfLrf plane) t = lrf_kind plane t

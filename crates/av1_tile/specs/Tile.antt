@@ -1,10 +1,12 @@
 -- The state of a tile: what decides how the next step is coded. Places count 4x4 luma blocks from the tile's corner.
-use Rattle.std.specs.Prelude.{ℕ, ◌*◌, List, [], ◌∷◌, Bool, true, Option, None, replicate, ◌&&◌, is_some, nat_lt}
+use Rattle.std.specs.Prelude.{ℕ, ◌*◌, List, [], ◌∷◌, Bool, Option, None, replicate, ◌&&◌, is_some, nat_lt}
 use Rattle.av1_blocks.specs.declared.block.TheConstants.Block.{DEFAULT}
 use Rattle.av1_blocks.specs.declared.block_context.BlockContext.{BlockContext}
 use Rattle.av1_blocks.specs.Edges.{fresh as fresh_edges}
-use Rattle.av1_blocks.specs.Grid.{Grid, frame, whole, block_at}
+use Rattle.av1_blocks.specs.Grid.{Grid, part, whole, block_at}
 use Rattle.av1_frame.specs.FilterRules.{plane_at as plane_config}
+use Rattle.av1_frame.specs.HeaderRules.{blocks}
+use Rattle.av1_frame.specs.declared.frame.FrameInvariants.{FrameInvariants}
 use Rattle.av1_frame.specs.declared.state.FrameState.{FrameState}
 use Rattle.av1_blocks.specs.declared.block.Block.{Block}
 use Rattle.av1_geometry.specs.declared.block_offset.BlockOffset.{BlockOffset}
@@ -12,13 +14,14 @@ use Rattle.av1_geometry.specs.declared.block_offset.TileBlockOffset.{TileBlockOf
 use Rattle.av1_geometry.specs.declared.block_size.BlockSize.{BlockSize}
 use Rattle.av1_geometry.specs.declared.chroma_sampling.ChromaSampling.{ChromaSampling}
 use Rattle.av1_geometry.specs.declared.prediction_mode.PredictionMode.{PredictionMode}
+use Rattle.av1_mvref.specs.ExtraSearch.{Candidates}
 use Rattle.av1_syntax.specs.Restoration.{starting}
 use Rattle.av1_syntax.specs.declared.restoration.TileRestorationState.{TileRestorationState}
 use Rattle.av1_geometry.specs.declared.ref_type.RefType.TheVariants.{INTRA_FRAME, NONE_FRAME}
 use Rattle.av1_geometry.specs.BlockSize.{width_mi, height_mi}
 use Rattle.av1_geometry.specs.BlockTables.{max_tx_size, subsampled_size_of}
 use Rattle.av1_geometry.specs.ChromaSampling.{xdec_of, ydec_of}
-use Rattle.av1_tile.specs.Given.{Given, tile_cols, tile_rows}
+use Rattle.av1_tile.specs.Given.{Given, learns_of, tile_cols, tile_left, tile_rows, tile_top}
 
 -- the block that steps speak of: its place and its size
 abbrev pub CurrentBlock : Type 0
@@ -44,6 +47,9 @@ pub record Tile : Type 0 where
   pub current : Option CurrentBlock
   -- the chroma mode of the current block, once it is entered
   pub uv : Option PredictionMode
+  -- the candidates for its vectors and the context of its mode, once they are found, and which candidate its mode takes
+  pub cands : Option Candidates
+  pub pick : ℕ
 
 abbrev pub sampling : Tile → ChromaSampling
 sampling t = t.given.fi.sequence.chroma_sampling
@@ -74,9 +80,12 @@ grid_block t b = block_at t.bc.blocks (place_of_block b).x (place_of_block b).y
 abbrev pub with_numbers : List ℕ → Tile → Tile
 with_numbers numbers t = record t { numbers = numbers }
 
--- a grid of so many columns and rows of blocks that were not entered
-abbrev pub fresh_grid : ℕ → ℕ → Grid
-fresh_grid cols rows = whole (frame cols rows (replicate (cols * rows) DEFAULT))
+-- the grid of tile number k of a frame: its blocks, which were not entered, from its corner in the frame on
+abbrev pub fresh_grid : FrameInvariants → ℕ → Grid
+fresh_grid fi k =
+    let cols = tile_cols fi k in
+    let rows = tile_rows fi k in
+    whole (part (record { x = tile_left fi k; y = tile_top fi k }) cols rows (blocks fi.width) (blocks fi.height) (replicate (cols * rows) DEFAULT))
 
 -- which restoration filters a plane of a frame has
 abbrev pub lrf_type_of : FrameState → ℕ → ℕ
@@ -92,9 +101,11 @@ fresh g k numbers = record {
   given = g;
   number = k;
   numbers = numbers;
-  learns = true;
-  bc = fresh_edges (fresh_grid (tile_cols g.fi k) (tile_rows g.fi k));
+  learns = learns_of g.fi;
+  bc = fresh_edges (fresh_grid g.fi k);
   rs = first_planes g.fs;
   current = None;
   uv = None;
+  cands = None;
+  pick = 0;
 }

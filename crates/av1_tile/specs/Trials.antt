@@ -1,5 +1,5 @@
 -- A script: steps, and trials of steps that are kept or given up.
-use Rattle.std.specs.Prelude.{ℕ, ◌+◌, ◌-◌, ◌/◌, ◌&&◌, ◌||◌, ◌==◌, ◌++◌, not, List, [], ◌∷◌, Bool, true, false, Option, Some, None, option_map, nat_lt, if◌then◌else◌}
+use Rattle.std.specs.Prelude.{◌≡◌, ℕ, ◌+◌, ◌-◌, ◌/◌, ◌&&◌, ◌||◌, ◌==◌, ◌++◌, not, List, [], ◌∷◌, Bool, true, false, Option, Some, None, option_map, nat_lt, if◌then◌else◌}
 use Rattle.std.specs.Option.{option_map_or}
 use Rattle.av1_model.specs.Eighths.{eighths}
 use Rattle.av1_model.specs.Interval.{bits}
@@ -127,3 +127,11 @@ first_wrong n p [] = if no_trial p.trials then None else Some (BadScript p.at.co
 first_wrong n p (item ∷ items) =
     if misplaced item p.at.context p.trials then Some (BadScript p.at.context.number n)
     else option_map_or (λ fault. Some (error_of p.at.context.number n fault)) (item_fault item p.at) (first_wrong (n + 1) (moved n p item) items)
+
+-- an item is right here, whatever comes after: what is wrong with items that begin with it is what is wrong with the rest after it
+abbrev pub IsRight : ℕ → Progress → Item → Type 0
+IsRight n p item = (rest : List Item) → first_wrong n p (item ∷ rest) ≡ first_wrong (n + 1) (moved n p item) rest
+
+-- an item is wrong here, whatever comes after, and this says how
+abbrev pub IsWrong : ℕ → Progress → Item → UnitError → Type 0
+IsWrong n p item e = (rest : List Item) → first_wrong n p (item ∷ rest) ≡ Some e

@@ -65,6 +65,8 @@ impl<'u> TileState<'u> {
         self.cw.bc.blocks.set_block(bo, size, new_block(size));
         self.current = Some((bo, size));
         self.uv = None;
+        self.cands = None;
+        self.pick = 0;
     }
 
     pub(crate) fn check_partition(

@@ -1,20 +1,20 @@
 // From the items of a script to the bytes of a tile.
-ghost use Rattle.std.specs.Prelude.{◌≡◌, ◌⊎◌, ◌&&◌, ℕ, ◌+◌, ◌*◌, ◌^◌, ◌<◌, ◌≤◌, ◌∷◌, List, true, false, length, not, None, Some, IfOk, IfErr, OnOk, option_map};
+ghost use Rattle.std.specs.Prelude.{◌≡◌, ◌⊎◌, ◌&&◌, ℕ, ◌+◌, ◌*◌, ◌^◌, ◌<◌, ◌≤◌, true, false, length, not, None, Some, IfOk, IfErr, OnOk, option_map};
 ghost use Rattle.av1_tile.specs.declared.error.UnitError.{UnitError};
 ghost use Rattle.av1_tile.specs.declared.error.UnitError.TheVariants.{OutOfMemory as MemoryError};
 ghost use Rattle.av1_tile.specs.declared.unit.Item.{Item};
-ghost use Rattle.av1_ec.specs.Recorder.{tokens_at};
 ghost use Rattle.av1_model.specs.Eighths.{eighths};
-ghost use Rattle.av1_model.specs.Interval.{whole, bits, final_bytes};
-ghost use Rattle.av1_model.specs.Position.{advance_all, encoder_at};
-ghost use Rattle.av1_tile.specs.Coder.{IsNew, HasCoded};
+ghost use Rattle.av1_model.specs.Interval.{bits, final_bytes};
+ghost use Rattle.av1_model.specs.Position.{encoder_at};
+ghost use Rattle.av1_tile.specs.Coder.{IsNew, HasCoded, IsReplayed};
 ghost use Rattle.av1_tile.specs.Given.{given_of, tile_count, IsGiven};
 ghost use Rattle.av1_tile.specs.Step.{is_untried};
-ghost use Rattle.av1_tile.specs.Trials.{error_of, first_wrong};
+ghost use Rattle.av1_tile.specs.Trials.{error_of};
 ghost use Rattle.av1_tile.specs.TileBytes.{script_of, wrong_in, ending, costs_of};
 
 use crate::check::check_step;
 use crate::costs::TrialCosts;
+use crate::may_come::is_untried;
 use crate::tile::TileState;
 use crate::trial::TrialMark;
 use crate::{Item, Place, StepFault, TileStep, TrialCost, Unit, UnitError, Via};
@@ -35,8 +35,7 @@ pub(crate) struct TileCoder<'u, W> {
 impl<'u, W: Writer> TileCoder<'u, W> {
     ghost use Rattle.av1_tile.specs.Coder.{Stands, Knows, Proceeds};
     ghost use Rattle.av1_tile.specs.State.{tile_of};
-    ghost use Rattle.av1_tile.specs.Tile.{place_of_block};
-    ghost use Rattle.av1_tile.specs.Trials.{moved, moved_all, misplaced, no_trial, item_fault, strays, first_wrong, place_of};
+    ghost use Rattle.av1_tile.specs.Trials.{moved, moved_all, misplaced, no_trial, item_fault, strays, first_wrong, place_of, IsRight, IsWrong};
     ghost use Rattle.av1_tile.specs.declared.unit.Item.TheVariants.{Step, Begin, Keep, Abandon};
 
     // Whether a place lies in another superblock than the innermost trial.
@@ -46,43 +45,6 @@ impl<'u, W: Writer> TileCoder<'u, W> {
         match self.marks.last() {
             Some(mark) => place.sb_offset() != mark.place.0.sb_offset(),
             None => false,
-        }
-    }
-
-    // The place of a step: its own, or the current block's.
-    fn place_of(&self, step: &TileStep) -> Option<BlockOffset>
-        ensures { Knows W.Known self.now (λ p. result ≡ place_of (Step step.now) p.at.context) }
-    {
-        match step {
-            TileStep::RowStart => None,
-            TileStep::Block { x, y, .. } => Some(BlockOffset { x: *x, y: *y }),
-            TileStep::Partition { x, y, .. } => Some(BlockOffset { x: *x, y: *y }),
-            TileStep::Skip { .. } => self.place_of_current(),
-            TileStep::Segment { .. } => self.place_of_current(),
-            TileStep::IntraModeKf { .. } => self.place_of_current(),
-            TileStep::UvMode { .. } => self.place_of_current(),
-            TileStep::IntraMode { .. } => self.place_of_current(),
-            TileStep::Cdef { .. } => self.place_of_current(),
-            TileStep::DeltaLf { .. } => self.place_of_current(),
-            TileStep::AngleDelta { .. } => self.place_of_current(),
-            TileStep::CflAlphas { .. } => self.place_of_current(),
-            TileStep::FilterIntra { .. } => self.place_of_current(),
-            TileStep::Palette { .. } => self.place_of_current(),
-            TileStep::TxNote => self.place_of_current(),
-            TileStep::TxIntra { .. } => self.place_of_current(),
-            TileStep::TxInter { .. } => self.place_of_current(),
-            TileStep::Coeffs { x, y, .. } => Some(BlockOffset { x: *x, y: *y }),
-            TileStep::Lrf { .. } => None,
-        }
-    }
-
-    // The place of the current block.
-    fn place_of_current(&self) -> Option<BlockOffset>
-        ensures { Knows W.Known self.now (λ p. result ≡ option_map place_of_block p.at.context.current) }
-    {
-        match self.tile.current {
-            Some((bo, _)) => Some(bo.0),
-            None => None,
         }
     }
 
@@ -97,7 +59,7 @@ impl<'u, W: Writer> TileCoder<'u, W> {
     fn is_astray(&self, step: &TileStep) -> bool
         ensures { Knows W.Known self.now (λ p. result ≡ strays p.trials (place_of (Step step.now) p.at.context)) }
     {
-        match self.place_of(step) {
+        match self.tile.place_of(step) {
             Some(place) => self.strays(place),
             None => false,
         }
@@ -142,7 +104,7 @@ impl<'u, W: Writer> TileCoder<'u, W> {
     // What is wrong with item `n`.
     fn check(&self, n: usize, item: &Item) -> Result<(), UnitError>
         ensures ok { OnOk result (Knows W.Known self.now (λ p. (misplaced item.now p.at.context p.trials ≡ false) × (item_fault item.now p.at ≡ None))) }
-        ensures err { IfErr result (λ e. Knows W.Known self.now (λ p. (rest : List Item) → first_wrong n p (item.now ∷ rest) ≡ Some e)) }
+        ensures err { IfErr result (λ e. Knows W.Known self.now (λ p. IsWrong n p item.now e)) }
     {
         let tile = self.tile.number();
         if self.is_misplaced(item) {
@@ -178,8 +140,8 @@ impl<'u, W: Writer> TileCoder<'u, W> {
     fn code_item(&mut self, alloc: Global, n: usize, item: &Item) -> Result<(), UnitError>
         requires standing { Stands W.Known self.old }
         ensures ok { OnOk result (Proceeds W.Known self.old self.new (λ p. moved n p item.now)) }
-        ensures right { OnOk result (Knows W.Known self.old (λ p. (rest : List Item) → first_wrong n p (item.now ∷ rest) ≡ first_wrong (n + 1) (moved n p item.now) rest)) }
-        ensures err { IfErr result (λ e. (e ≡ MemoryError) ⊎ Knows W.Known self.old (λ p. (rest : List Item) → first_wrong n p (item.now ∷ rest) ≡ Some e)) }
+        ensures right { OnOk result (Knows W.Known self.old (λ p. IsRight n p item.now)) }
+        ensures err { IfErr result (λ e. (e ≡ MemoryError) ⊎ Knows W.Known self.old (λ p. IsWrong n p item.now e)) }
     {
         self.check(n, item)?;
         self.take(alloc, n, item)?;
@@ -204,17 +166,6 @@ impl<'u, W: Writer> TileCoder<'u, W> {
                 item: items.len(),
             })
         }
-    }
-}
-
-// Whether no trial has a step: what it changes is not undone.
-fn is_untried(step: &TileStep) -> bool
-    ensures { result ≡ is_untried step.now }
-{
-    match step {
-        TileStep::RowStart => true,
-        TileStep::Lrf { .. } => true,
-        _ => false,
     }
 }
 
@@ -272,7 +223,7 @@ fn replayed(
     alloc: Global,
     mut recorder: WriterBase<WriterRecorder>,
 ) -> Result<WriterBase<WriterEncoder>, OutOfMemory>
-    ensures { IfOk result (λ w. ⟦<WriterBase<WriterEncoder> as Known>⟧.position w ≡ advance_all (encoder_at whole) (tokens_at (⟦<WriterBase<WriterRecorder> as Known>⟧.position recorder))) }
+    ensures { IfOk result (λ w. IsReplayed (⟦<WriterBase<WriterRecorder> as Known>⟧.position recorder) (⟦<WriterBase<WriterEncoder> as Known>⟧.position w)) }
 {
     law_of_recorders(&recorder);
     let mut encoder = WriterEncoder::new(alloc);
@@ -291,7 +242,8 @@ fn encode(
     requires tile { tile < tile_count unit.now.fi }
     requires script { tile < length unit.now.scripts.items }
     ensures allowed { OnOk result (wrong_in (given_of unit.now) tile (script_of unit.now tile) ≡ None) }
-    ensures coded { IfOk result (λ r. ⟦<WriterBase<WriterEncoder> as Known>⟧.position r.0 ≡ encoder_at (ending (given_of unit.now) tile (script_of unit.now tile))) }
+    ensures coded { let end = ending (given_of unit.now) tile (script_of unit.now tile) in
+        IfOk result (λ r. ⟦<WriterBase<WriterEncoder> as Known>⟧.position r.0 ≡ encoder_at end) }
     ensures few { OnOk result (eighths (ending (given_of unit.now) tile (script_of unit.now tile)) ≤ 8 * (2 ^ 28 + 2 ^ 24)) }
     ensures trials { IfOk result (λ r. r.1.items ≡ costs_of (given_of unit.now) tile (script_of unit.now tile)) }
     ensures err { IfErr result (λ e. (e ≡ MemoryError) ⊎ (wrong_in (given_of unit.now) tile (script_of unit.now tile) ≡ Some e)) }

@@ -21,8 +21,8 @@ ghost use Rattle.av1_tile.specs.State.{tile_of};
 
 use av1_ec::Writer;
 
-/// In each state that a tile can have, for each step that breaks no rule there is exactly one list of symbols that leads a reader to it. A writer that was refused
-/// has stored a front of them. A step with no fault after some number of bits has none after fewer.
+/// In each state that a tile can have, for each step that breaks no rule there is exactly one list of symbols that leads a reader
+/// to it. A writer that was refused has stored a front of them. A step with no fault after some number of bits has none after fewer.
 pub fn law_of_steps()
     ensures leads { (step : TileStep) (t : Tile) → first_broken (rules step t) ≡ None →
         AreCdfs t.numbers → IsKept t → Leads (syntax_of (question_of step) t) (symbols_of step t) step }
@@ -46,13 +46,15 @@ pub fn law_of_reading_steps()
 /// Whatever bytes a reader that is led by questions takes steps from, the steps answer the questions and break no rule, and
 /// the reading ends where coding them does.
 pub fn law_of_read_steps()
-    ensures { (at : Coding Tile) (bytes : List ℕ) (questions : List Question) (steps : List TileStep) (end : Coding Tile) → IsSound at → read_steps questions bytes at ≡ Some (steps, end) →
+    ensures { (at : Coding Tile) (bytes : List ℕ) (questions : List Question) (steps : List TileStep) (end : Coding Tile) →
+        IsSound at → read_steps questions bytes at ≡ Some (steps, end) →
         (map question_of steps ≡ questions) × (first_broken_step 0 at steps ≡ None) × (end ≡ after_all at steps) }
 {}
 
 /// A trial that is given up leaves no trace, whatever trials begin in it and are kept or given up: the tile, the writer's position and
 /// the marks are those of its beginning. The items are taken as `write_item` takes them.
 pub fn law_of_trials<W: Writer>()
-    ensures { (place : TileBlockOffset) (items : List Item) (from to : Stage W) → ends_its_own 0 items ≡ true → TakesAll W.Known from to (Begin place ∷ (items ++ Abandon ∷ [])) →
+    ensures { (place : TileBlockOffset) (items : List Item) (from to : Stage W) → ends_its_own 0 items ≡ true →
+        TakesAll W.Known from to (Begin place ∷ (items ++ Abandon ∷ [])) →
         (tile_of to.tile ≡ tile_of from.tile) × (W.position to.writer ≡ W.position from.writer) × (to.marks ≡ from.marks) }
 {}

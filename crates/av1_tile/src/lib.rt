@@ -11,8 +11,12 @@
 //! - `filter_steps`: the steps of the current block for filters and palettes
 //! - `delta_steps`: the steps of the current block for its segment and for the levels of the loop filter
 //! - `transform_steps`: the steps of the sizes of transforms
+//! - `inter_steps`: the steps that say whether a block is predicted from other frames, and from which
+//! - `mode_steps`: the steps that say the mode of an inter block, and which candidate it takes
+//! - `vector_steps`: the steps of the vectors of inter blocks: their candidates, and the vectors that are coded
 //! - `coeff_steps`: the steps of transform blocks: their coefficients
 //! - `restoration_steps`: the step that codes the filter of a restoration unit
+//! - `may_come`: whether an item can come (`can_come`)
 //! - `item`: one item of a script in it: a step, or the beginning or end of a trial (`write_item`)
 //! - `trial`: what a trial keeps, and going back to it
 //! - `check`: what is wrong with a step (`check_step`)
@@ -31,9 +35,12 @@ mod costs;
 mod delta_steps;
 mod error;
 mod filter_steps;
+mod inter_steps;
 mod intra_steps;
 mod item;
 mod laws;
+mod may_come;
+mod mode_steps;
 mod place;
 mod report;
 mod restoration_steps;
@@ -41,11 +48,13 @@ mod tile;
 mod transform_steps;
 mod trial;
 mod unit;
+mod vector_steps;
 
 pub use check::check_step;
 pub use coding::{CodedTile, code_by, code_tile};
 pub use error::{Place, StepFault, UnitError};
 pub use laws::{law_of_read_steps, law_of_reading_steps, law_of_steps, law_of_trials};
+pub use may_come::can_come;
 pub use report::{TileReport, TrialCost};
 pub use tile::TileState;
 pub use trial::TrialMark;

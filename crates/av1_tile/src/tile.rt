@@ -4,15 +4,17 @@ ghost use Rattle.av1_cdf.specs.Context.{AreCdfs};
 ghost use Rattle.av1_cdf.specs.Log.{KeepsUndone};
 ghost use Rattle.av1_ec.specs.Storing.{Keeps};
 ghost use Rattle.av1_tile.specs.Kept.{IsKept};
-ghost use Rattle.av1_tile.specs.Place.{tile_at};
+ghost use Rattle.av1_tile.specs.Place.{tile_at, AreSwitches};
 
-use crate::place::TileSides;
+use crate::place::fresh_blocks;
 use crate::restoration_steps::first_planes;
 use crate::{TileStep, Unit};
-use av1_blocks::{BlockContext, FrameBlocks};
+use arrayvec::ArrayVec;
+use av1_blocks::BlockContext;
 use av1_cdf::CDFContext;
 use av1_ec::Writer;
 use av1_geometry::{BlockOffset, BlockSize, OutOfMemory, PredictionMode, Rule, TileBlockOffset};
+use av1_mvref::CandidateMV;
 use av1_syntax::{ContextWriter, TileRestorationState};
 use std::alloc::Global;
 
@@ -34,11 +36,18 @@ pub struct TileState<'u> {
     /// The chroma mode of the current block, once it is entered.
     pub uv: Option<PredictionMode>,
 
+    /// The candidates for the vectors of the current block, by falling weight, and the context of its mode, once they are found.
+    pub cands: Option<(ArrayVec<CandidateMV, 9>, usize)>,
+
+    /// Which candidate the mode of the current block takes.
+    pub pick: usize,
+
     // Which tile of the frame it is.
     number: u32,
 
     ghost cdfs: { AreCdfs cw.fc },
-    ghost kept: { IsKept (tile_at unit.now number cw rs current uv) },
+    ghost kept: { IsKept (tile_at unit.now number cw rs current uv cands pick) },
+    ghost switches: { AreSwitches unit.now cw.adapt cw.eob_by_coded },
 }
 
 impl<'u> TileState<'u> {
@@ -56,15 +65,19 @@ impl<'u> TileState<'u> {
         requires tile { tile < tile_count unit.now.fi }
         ensures { IfOk result (λ s. tile_of s ≡ (begin (given_of unit.now) tile).context) }
     {
-        let TileSides { cols, rows } = TileSides::of(&unit.fi, tile);
+        let blocks = fresh_blocks(alloc, &unit.fi, tile)?;
         let fc = CDFContext::new(&unit.tables, unit.fi.base_q_idx);
-        let blocks = FrameBlocks::new(alloc, cols, rows)?.as_tile_blocks_mut();
+        let mut cw = ContextWriter::new(alloc, fc, BlockContext::new(blocks));
+        cw.adapt = !unit.fi.disable_cdf_update;
+        cw.eob_by_coded = unit.eob_by_coded;
         Ok(TileState {
             unit,
-            cw: ContextWriter::new(alloc, fc, BlockContext::new(blocks)),
+            cw,
             rs: first_planes(&unit.fs),
             current: None,
             uv: None,
+            cands: None,
+            pick: 0,
             number: tile as u32,
         })
     }
@@ -107,6 +120,13 @@ impl<'u> TileState<'u> {
             TileStep::TxNote => self.check_tx_note(),
             TileStep::TxIntra { answer } => self.check_tx_intra(*answer),
             TileStep::TxInter { answer } => self.check_tx_inter(*answer),
+            TileStep::IsInter { answer } => self.check_is_inter(*answer),
+            TileStep::RefFrames { answer } => self.check_ref_frames(*answer),
+            TileStep::InterMode { answer } => self.check_inter_mode(*answer),
+            TileStep::CompoundMode { answer } => self.check_compound_mode(*answer),
+            TileStep::Drl { index, answer } => self.check_drl(*index, *answer),
+            TileStep::MvRefs { has_tr } => self.check_mv_refs(*has_tr),
+            TileStep::Mv { list, answer } => self.check_mv(*list, *answer),
             TileStep::Coeffs {
                 plane,
                 x,
@@ -167,6 +187,16 @@ impl<'u> TileState<'u> {
             }
             TileStep::TxIntra { answer } => self.write_tx_intra(w, *answer),
             TileStep::TxInter { answer } => self.write_tx_inter(w, *answer),
+            TileStep::IsInter { answer } => self.write_is_inter(w, *answer),
+            TileStep::RefFrames { answer } => self.write_ref_frames(w, *answer),
+            TileStep::InterMode { answer } => self.write_inter_mode(w, *answer),
+            TileStep::CompoundMode { answer } => self.write_compound_mode(w, *answer),
+            TileStep::Drl { index, answer } => self.write_drl(w, *index, *answer),
+            TileStep::MvRefs { has_tr } => {
+                self.enter_mv_refs(*has_tr);
+                Ok(())
+            }
+            TileStep::Mv { list, answer } => self.write_mv(w, *list, *answer),
             TileStep::Coeffs {
                 plane,
                 x,

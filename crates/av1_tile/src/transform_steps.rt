@@ -24,7 +24,7 @@ impl<'u> TileState<'u> {
     ghost use Rattle.av1_tile.specs.Writing.{Writes};
 
     // What stands in the grid at the place of the current block.
-    fn standing_at(&self, b: (TileBlockOffset, BlockSize)) -> Block
+    pub(crate) fn standing_at(&self, b: (TileBlockOffset, BlockSize)) -> Block
         requires { (tile_of self.now).current ≡ Some b }
         ensures { result ≡ standing_at (tile_of self.now) b }
     {

@@ -4,11 +4,14 @@ ghost use Rattle.av1_cdf.specs.Log.{IsReached as HasSaves, IsWithin, undone};
 ghost use Rattle.av1_cdf.specs.Context.{AreCdfs};
 ghost use Rattle.av1_tile.specs.Marks.{IsMarkOf, WentBack};
 ghost use Rattle.av1_tile.specs.Kept.{IsKept};
+ghost use Rattle.av1_tile.specs.Place.{candidates_in};
 
 use crate::tile::TileState;
+use arrayvec::ArrayVec;
 use av1_blocks::SavedBlocks;
 use av1_ec::{Writer, WriterCheckpoint};
 use av1_geometry::{BlockSize, OutOfMemory, PredictionMode, TileBlockOffset, TileSuperBlockOffset};
+use av1_mvref::CandidateMV;
 use av1_syntax::ContextWriterCheckpoint;
 use std::alloc::Global;
 
@@ -27,9 +30,11 @@ pub struct TrialMark {
     /// The blocks of the superblock of the place.
     pub blocks: SavedBlocks,
 
-    /// The current block then, and its chroma mode.
+    /// The current block then, its chroma mode, the candidates for its vectors, and which of them its mode takes.
     pub current: Option<(TileBlockOffset, BlockSize)>,
     pub uv: Option<PredictionMode>,
+    pub cands: Option<(ArrayVec<CandidateMV, 9>, usize)>,
+    pub pick: usize,
 }
 
 impl TrialMark {
@@ -74,6 +79,8 @@ impl<'u> TileState<'u> {
                 .save_sb(alloc, TileSuperBlockOffset(place.0.sb_offset()))?,
             current: self.current,
             uv: self.uv,
+            cands: copy_of(&self.cands),
+            pick: self.pick,
         })
     }
 
@@ -95,5 +102,28 @@ impl<'u> TileState<'u> {
         self.cw.bc.restore_sb(&mark.blocks);
         self.current = mark.current;
         self.uv = mark.uv;
+        self.cands = copy_of(&mark.cands);
+        self.pick = mark.pick;
     }
+}
+
+// The same candidates and context.
+fn copy_of(
+    cands: &Option<(ArrayVec<CandidateMV, 9>, usize)>,
+) -> Option<(ArrayVec<CandidateMV, 9>, usize)>
+    ensures { candidates_in result ≡ candidates_in cands.now }
+{
+    match cands {
+        Some((list, context)) => Some((copied(list), *context)),
+        None => None,
+    }
+}
+
+// The same candidates.
+fn copied(list: &ArrayVec<CandidateMV, 9>) -> ArrayVec<CandidateMV, 9>
+    ensures { result.items ≡ list.now.items }
+{
+    let mut copy = ArrayVec::new();
+    copy.try_extend_from_slice(list.as_slice()).unwrap();
+    copy
 }

@@ -5,7 +5,8 @@ use av1_cdf::Tables;
 use av1_coef::Scans;
 use av1_frame::{FrameInvariants, FrameState, Metadata, Refs};
 use av1_geometry::{
-    BlockSize, FRAME_LF_COUNT, PartitionType, PredictionMode, TileBlockOffset, TxSize, TxType,
+    BlockSize, FRAME_LF_COUNT, MotionVector, PartitionType, PredictionMode, RefType,
+    TileBlockOffset, TxSize, TxType,
 };
 use av1_syntax::RestorationFilter;
 use std::marker::Model;
@@ -33,6 +34,10 @@ pub struct Unit {
 
     /// Whether a temporal delimiter comes first.
     pub delimiter: bool,
+
+    /// Whether the class of an end of coefficients goes by the coded size of the transform, as in the AV1 specification, and not
+    /// by the whole, as in rav1e.
+    pub eob_by_coded: bool,
 
     /// What is coded in each tile, in raster order.
     pub scripts: Vec<TileScript>,
@@ -165,6 +170,51 @@ pub enum TileStep {
     /// 5.11.17).
     TxInter {
         answer: bool,
+    },
+
+    /// Whether the current block is predicted from other frames (`is_inter`, AV1 specification 5.11.20). It begins with the last
+    /// frame as its reference, or as an intra block.
+    IsInter {
+        answer: bool,
+    },
+
+    /// Which frames the current block, which is an inter block, is predicted from: one, or one behind and one ahead in display order
+    /// (`ref_frames`, AV1 specification 5.11.25).
+    RefFrames {
+        answer: (RefType, RefType),
+    },
+
+    /// The candidates for the vectors of the current block, which is an inter block, are found in the blocks around it
+    /// (`find_mv_stack`, AV1 specification 7.10.2). `has_tr` says whether the block at the top right is coded before it. Nothing is
+    /// coded.
+    MvRefs {
+        has_tr: bool,
+    },
+
+    /// The mode of the current block, which has one reference: one of those that take the first candidate of their kind (`new_mv`,
+    /// `zero_mv` and `ref_mv`, AV1 specification 5.11.23).
+    InterMode {
+        answer: PredictionMode,
+    },
+
+    /// The mode of the current block, which has two references: one of those that take the first candidate of their kind
+    /// (`compound_mode`, AV1 specification 5.11.23).
+    CompoundMode {
+        answer: PredictionMode,
+    },
+
+    /// Whether the current block takes a later candidate than number `index` (`drl_mode`, AV1 specification 5.11.23). Where it does, it
+    /// takes the next one, until a further step says that it takes a later one still.
+    Drl {
+        index: usize,
+        answer: bool,
+    },
+
+    /// The first vector of the current block, list 0, or the second, list 1, where its mode has a new one: it is coded by how it
+    /// differs from that of the candidate that the mode takes (`read_mv`, AV1 specification 5.11.31).
+    Mv {
+        list: usize,
+        answer: MotionVector,
     },
 
     /// The coefficients of a transform block of the current block (`coeffs`, AV1 specification 5.11.39). The type of the transform

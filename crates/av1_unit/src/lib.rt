@@ -31,7 +31,7 @@ pub use av1_header::{
 };
 pub use av1_tile::{
     Item, Levels, Place, StepFault, TileReport, TileScript, TileState, TileStep, TrialCost,
-    TrialMark, Unit, UnitError, Via, check_step, law_of_read_steps, law_of_reading_steps,
+    TrialMark, Unit, UnitError, Via, can_come, check_step, law_of_read_steps, law_of_reading_steps,
     law_of_steps, law_of_trials,
 };
 pub use laws::{law_of_taking_apart, law_of_tile_counts, law_of_written_units};

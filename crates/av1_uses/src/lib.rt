@@ -99,6 +99,7 @@ pub fn one_block(alloc: Global) -> Result<(Vec<u8>, Report), UnitError> {
         refs: [None; 8],
         metadata: Vec::new(alloc),
         delimiter: true,
+        eob_by_coded: false,
         scripts: scripts.map_err(|_| OutOfMemory)?,
     };
     unit_bytes(alloc, &unit, Via::Direct)

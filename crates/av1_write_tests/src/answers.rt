@@ -1,7 +1,13 @@
 use crate::coefficients::COEFFICIENTS;
+use crate::every_kind::EVERY_KIND;
 use crate::examples::EXAMPLES;
+use crate::inter_blocks::INTER_BLOCKS;
+use crate::inter_kinds::INTER_KINDS;
 use crate::kinds::KINDS;
+use crate::made::MADE;
 use crate::rows::ROWS;
+use crate::traps;
+use crate::vector_kinds::VECTOR_KINDS;
 use av1_bits::{MemSink, MemSource};
 use av1_program::run::run;
 use std::alloc::Global;
@@ -50,19 +56,24 @@ fn answers(
     Ok(())
 }
 
-// Each of these rows is answered as it says.
+// This row is answered as it says.
+fn is_answered(rt: &impl Abort, alloc: Global, row: &str) -> Result<(), Fail> {
+    let (input, want) = row.split_once('\n').unwrap_or(("", ""));
+    let (number, told) = want.split_once('\n').unwrap_or(("", ""));
+    let number = number.parse::<u8>()?;
+    let told = format!(in alloc; "{told}\n")?;
+    let (out, err) = if number == 0 {
+        (told.as_str(), "")
+    } else {
+        ("", told.as_str())
+    };
+    answers(rt, alloc, source(alloc, input)?, number, out, err)
+}
+
+// Each of these rows is.
 fn all_are_answered(rt: &impl Abort, alloc: Global, rows: &str) -> Result<(), Fail> {
     for row in rows.split("\n\n") {
-        let (input, want) = row.split_once('\n').unwrap_or(("", ""));
-        let (number, told) = want.split_once('\n').unwrap_or(("", ""));
-        let number = number.parse::<u8>()?;
-        let told = format!(in alloc; "{told}\n")?;
-        let (out, err) = if number == 0 {
-            (told.as_str(), "")
-        } else {
-            ("", told.as_str())
-        };
-        answers(rt, alloc, source(alloc, input)?, number, out, err)?;
+        is_answered(rt, alloc, row)?;
     }
     Ok(())
 }
@@ -85,6 +96,88 @@ fn examples_are_answered(rt: HostRuntime) -> Result<(), Fail> {
 #[test]
 fn rows_of_coefficients_are_answered(rt: HostRuntime) -> Result<(), Fail> {
     all_are_answered(&rt, rt.alloc(), COEFFICIENTS)
+}
+
+#[test]
+fn rows_of_inter_kinds_are_answered(rt: HostRuntime) -> Result<(), Fail> {
+    all_are_answered(&rt, rt.alloc(), INTER_KINDS)
+}
+
+#[test]
+fn rows_of_vectors_are_answered(rt: HostRuntime) -> Result<(), Fail> {
+    all_are_answered(&rt, rt.alloc(), VECTOR_KINDS)
+}
+
+#[test]
+fn rows_of_inter_blocks_are_answered(rt: HostRuntime) -> Result<(), Fail> {
+    all_are_answered(&rt, rt.alloc(), INTER_BLOCKS)
+}
+
+#[test]
+fn is_inter_and_references_forget_the_candidates(rt: HostRuntime) -> Result<(), Fail> {
+    all_are_answered(&rt, rt.alloc(), traps::FORGOTTEN)
+}
+
+#[test]
+fn is_inter_and_references_enter_a_mode(rt: HostRuntime) -> Result<(), Fail> {
+    all_are_answered(&rt, rt.alloc(), traps::FIRST_MODES)
+}
+
+#[test]
+fn only_a_block_forgets_the_chroma_mode(rt: HostRuntime) -> Result<(), Fail> {
+    all_are_answered(&rt, rt.alloc(), traps::CHROMA_MODES)
+}
+
+#[test]
+fn vectors_stay_until_others_are_entered(rt: HostRuntime) -> Result<(), Fail> {
+    all_are_answered(&rt, rt.alloc(), traps::VECTORS)
+}
+
+#[test]
+fn new_candidates_leave_which_one_is_taken(rt: HostRuntime) -> Result<(), Fail> {
+    all_are_answered(&rt, rt.alloc(), traps::PICKS)
+}
+
+#[test]
+fn a_later_candidate_undoes_a_vector(rt: HostRuntime) -> Result<(), Fail> {
+    all_are_answered(&rt, rt.alloc(), traps::LATER)
+}
+
+#[test]
+fn blocks_that_none_touched_are_no_intra_blocks(rt: HostRuntime) -> Result<(), Fail> {
+    all_are_answered(&rt, rt.alloc(), traps::UNTOUCHED)
+}
+
+#[test]
+fn low_bits_that_are_not_coded_are_ones(rt: HostRuntime) -> Result<(), Fail> {
+    all_are_answered(&rt, rt.alloc(), traps::LOW_BITS)
+}
+
+#[test]
+fn the_largest_numbers_are_refused(rt: HostRuntime) -> Result<(), Fail> {
+    all_are_answered(&rt, rt.alloc(), traps::LARGE)
+}
+
+#[test]
+fn a_block_without_a_chroma_size_is_refused(rt: HostRuntime) -> Result<(), Fail> {
+    all_are_answered(&rt, rt.alloc(), traps::NO_CHROMA_SIZE)
+}
+
+#[test]
+fn a_step_of_each_of_the_26_kinds_is_coded(rt: HostRuntime) -> Result<(), Fail> {
+    let alloc = rt.alloc();
+    let mut kinds = 0;
+    for row in EVERY_KIND.split("\n\n") {
+        let (kind, unit) = row.split_once('\n').unwrap_or(("", ""));
+        let (input, told) = unit.split_once('\n').unwrap_or(("", ""));
+        let step = format!(in alloc; "{{\"op\":\"{kind}\"")?;
+        assert!(rt; input.contains(step.as_str()), "{kind}");
+        assert!(rt; told.starts_with("0\n"), "{kind}");
+        is_answered(&rt, alloc, unit)?;
+        kinds += 1;
+    }
+    assert_eq!(rt; kinds, 26);
+    Ok(())
 }
 
 #[test]
@@ -139,6 +232,15 @@ fn other_words_are_faulty_usage(rt: HostRuntime) -> Result<(), Fail> {
         "",
         "make",
         "make 07",
+        "make 00",
+        "make +7",
+        "make -7",
+        "make 7.",
+        "make 1000000",
+        "make 1 2",
+        "make make",
+        "makes 7",
+        "write 7",
         "write write",
         "raw write",
         "Write",
@@ -151,7 +253,7 @@ fn other_words_are_faulty_usage(rt: HostRuntime) -> Result<(), Fail> {
         assert_eq!(rt; status.number(), 1, "{text}");
         assert_eq!(rt;
             err.bytes(),
-            b"usage: av1_write write | raw\n".as_slice(),
+            b"usage: av1_write write | raw | make N\n".as_slice(),
             "{text}"
         );
     }
@@ -178,6 +280,31 @@ fn raw_sends_bytes_and_then_the_report(rt: HostRuntime) -> Result<(), Fail> {
     ];
     assert_eq!(rt; out.bytes(), want.as_slice());
     assert_eq!(rt; err.bytes(), b"tile 0 1 1\n".as_slice());
+    Ok(())
+}
+
+// The word `make` with a number gives this summary, and reads nothing.
+fn makes(rt: &impl Abort, alloc: Global, number: &str, want: &str) -> Result<(), Fail> {
+    let text = format!(in alloc; "make {number}")?;
+    let mut source = MemSource::new(Vec::new(alloc), false, vec![in alloc; 1]?);
+    let mut out = sink(alloc)?;
+    let mut err = sink(alloc)?;
+    let words = words(alloc, text.as_str())?;
+    let status = run(alloc, &words, &mut source, &mut out, &mut err);
+    assert_eq!(rt; status.number(), 0, "{text}");
+    assert_eq!(rt; out.bytes(), want.as_bytes(), "{text}");
+    assert!(rt; err.bytes().is_empty(), "{text}");
+    Ok(())
+}
+
+#[test]
+fn numbers_make_units(rt: HostRuntime) -> Result<(), Fail> {
+    let alloc = rt.alloc();
+    for row in MADE.split("\n\n") {
+        let number = row.split(' ').nth(1).unwrap_or("");
+        let want = format!(in alloc; "{row}\n")?;
+        makes(&rt, alloc, number, want.as_str())?;
+    }
     Ok(())
 }
 

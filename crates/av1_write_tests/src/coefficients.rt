@@ -1,5 +1,6 @@
 // Units with coefficients, and whole tiles in the order of AV1, with the status and the text that they give. Those of status 0 were
-// answered by rav1e's own calls; the rules of the refusals are those of the tables.
+// answered by rav1e's own calls, but for the one that says `eob_by_coded`, which a program written apart answered; the rules of the
+// refusals are those of the tables.
 
 /// Rows as those of `ROWS`.
 pub const COEFFICIENTS: &str =
@@ -7,6 +8,24 @@ pub const COEFFICIENTS: &str =
 0
 12000a051808bf011032061640000000c0
 tile 0 1 2
+
+{"seq":{"chroma_sampling":3},"frame":{"width":16,"height":64},"tiles":[[{"op":"Block","x":0,"y":0,"size":20},{"op":"Begin","x":0,"y":0},{"op":"Coeffs","plane":0,"x":0,"y":0,"tx_type":0,"a":[1]},{"op":"Abandon"}]]}
+0
+12000a05180d7ff0113206164000000080
+tile 0 1 1
+trial 0 1 56 abandoned
+
+{"seq":{"chroma_sampling":3},"frame":{"width":16,"height":64},"eob_by_coded":false,"tiles":[[{"op":"Block","x":0,"y":0,"size":20},{"op":"Begin","x":0,"y":0},{"op":"Coeffs","plane":0,"x":0,"y":0,"tx_type":0,"a":[1]},{"op":"Abandon"}]]}
+0
+12000a05180d7ff0113206164000000080
+tile 0 1 1
+trial 0 1 56 abandoned
+
+{"seq":{"chroma_sampling":3},"frame":{"width":16,"height":64},"eob_by_coded":true,"tiles":[[{"op":"Block","x":0,"y":0,"size":20},{"op":"Begin","x":0,"y":0},{"op":"Coeffs","plane":0,"x":0,"y":0,"tx_type":0,"a":[1]},{"op":"Abandon"}]]}
+0
+12000a05180d7ff0113206164000000080
+tile 0 1 1
+trial 0 1 55 abandoned
 
 {"seq":{"chroma_sampling":3},"frame":{"width":8,"height":8},"tiles":[[{"op":"Block","x":0,"y":0,"size":0},{"op":"Coeffs","plane":0,"x":0,"y":0,"tx_type":1,"a":[]}]]}
 6

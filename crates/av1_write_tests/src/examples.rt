@@ -24,6 +24,11 @@ tile 0 11 83
 trial 0 11 216 abandoned
 trial 0 14 135 kept
 
+{"seq":{"chroma_sampling":3,"still_picture":false,"reduced_still_picture_hdr":false},"frame":{"width":16,"height":8,"frame_type":1,"intra_only":false,"force_integer_mv":0,"refresh_frame_flags":0,"allow_high_precision_mv":true,"reference_mode":2,"ref_frame_sign_bias":[false,false,false,false,true,true,true]},"tiles":[[{"op":"Block","x":0,"y":0,"size":3},{"op":"Skip","a":true},{"op":"IsInter","a":true},{"op":"RefFrames","a":[1,7]},{"op":"MvRefs","has_tr":false},{"op":"CompoundMode","a":33},{"op":"Mv","list":0,"a":[3,-5]},{"op":"Mv","list":1,"a":[-3,5]},{"op":"Block","x":2,"y":0,"size":3},{"op":"Skip","a":true},{"op":"IsInter","a":true},{"op":"RefFrames","a":[1,7]},{"op":"MvRefs","has_tr":false},{"op":"CompoundMode","a":24},{"op":"Mv","list":1,"a":[-3,6]}]]}
+0
+1200321430e0000000436400000400f3ef5bb0c08dfeb960
+tile 0 9 67
+
 {"seq":{"chroma_sampling":3},"frame":{"width":8,"height":8},"tiles":[[]]}
 0
 12000a051808bf01103206164000000080
@@ -43,6 +48,12 @@ tile 0 4 25
 0
 12000a0618157ffc30283216128060001f6000000000000001860c32488028280050
 tile 0 1 4
+
+{"seq":{"chroma_sampling":3,"still_picture":false,"reduced_still_picture_hdr":false},"frame":{"width":24,"height":8,"frame_type":1,"intra_only":false,"force_integer_mv":0,"refresh_frame_flags":0,"tx_mode_select":true},"tiles":[[{"op":"Block","x":0,"y":0,"size":3},{"op":"Skip","a":true},{"op":"IsInter","a":true},{"op":"RefFrames","a":[1,8]},{"op":"MvRefs","has_tr":false},{"op":"InterMode","a":19},{"op":"Mv","list":0,"a":[0,2]},{"op":"TxNote"},{"op":"Block","x":2,"y":0,"size":3},{"op":"Skip","a":true},{"op":"IsInter","a":true},{"op":"RefFrames","a":[1,8]},{"op":"MvRefs","has_tr":false},{"op":"InterMode","a":19},{"op":"Mv","list":0,"a":[-8,4]},{"op":"TxNote"},{"op":"Block","x":4,"y":0,"size":3},{"op":"Skip","a":false},{"op":"IsInter","a":true},{"op":"RefFrames","a":[1,8]},{"op":"MvRefs","has_tr":false},{"op":"Begin","x":4,"y":0},{"op":"InterMode","a":14},{"op":"Abandon"},{"op":"InterMode","a":19},{"op":"Drl","idx":0,"a":true},{"op":"Mv","list":0,"a":[0,4]},{"op":"TxInter","a":false},{"op":"Coeffs","plane":0,"x":4,"y":0,"tx_type":9,"a":[2,-1]}]]}
+0
+1200321430e0000000036400000800c0fcfc8efa6fcbca10
+tile 0 9 68
+trial 0 21 25 abandoned
 
 {"seq":{"chroma_sampling":3,"still_picture":false,"reduced_still_picture_hdr":false,"enable_order_hint":true,"order_hint_bits_minus_1":6},"frame":{"width":8,"height":8,"frame_type":1,"intra_only":false,"force_integer_mv":0,"order_hint":1,"refresh_frame_flags":1,"error_resilient":true},"refs":[{"width":8,"height":8,"render_width":8,"render_height":8},null,null,null,null,null,null,null],"tiles":[[{"op":"Block","x":0,"y":0,"size":3},{"op":"Skip","a":true},{"op":"IntraMode","a":1}]]}
 0

@@ -3,13 +3,24 @@
 //! - `rows`: units with their status and text
 //! - `kinds`: more of them, for each kind of step of a key frame's blocks
 //! - `coefficients`: more of them, with coefficients, and whole tiles
+//! - `inter_kinds`, `vector_kinds`: more of them, for each kind of step of how inter blocks are predicted
+//! - `inter_blocks`: more of them, with trials, transforms and coefficients of inter blocks
+//! - `traps`: more of them, where a step of an inter block is easily misread
+//! - `every_kind`: one for each of the 26 kinds of step
 //! - `examples`: the units of `examples/`
+//! - `made`: summaries of units that numbers make
 //! - `answers`: each row through `run`, and what no row can say
 #![tactic(auto)]
 
 #[cfg(test)]
 mod answers;
 pub mod coefficients;
+pub mod every_kind;
 pub mod examples;
+pub mod inter_blocks;
+pub mod inter_kinds;
 pub mod kinds;
+pub mod made;
 pub mod rows;
+pub mod traps;
+pub mod vector_kinds;

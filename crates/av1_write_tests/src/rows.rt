@@ -56,6 +56,17 @@ tile 0 1 3
 tile 0 1 1
 trial 0 1 22 abandoned
 
+{"seq":{"chroma_sampling":3},"frame":{"width":8,"height":8,"disable_cdf_update":true},"tiles":[[]]}
+0
+12000a051808bf01103206964000000080
+tile 0 1 1
+
+{"seq":{"chroma_sampling":3},"frame":{"width":8,"height":8,"disable_cdf_update":true},"tiles":[[{"op":"Block","x":0,"y":0,"size":3},{"op":"Begin","x":0,"y":0},{"op":"Skip","a":true},{"op":"Skip","a":true},{"op":"Skip","a":true},{"op":"Abandon"}]]}
+0
+12000a051808bf01103206964000000080
+tile 0 1 1
+trial 0 1 24 abandoned
+
 {"seq":{"chroma_sampling":3},"frame":{"width":8,"height":8},"tiles":[[{"op":"Begin","x":0,"y":0},{"op":"Keep"}]]}
 0
 12000a051808bf01103206164000000080

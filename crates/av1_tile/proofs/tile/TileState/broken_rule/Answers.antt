@@ -63,6 +63,27 @@ returns-in-TxIntra c = c.check_tx_intra.ensures ∙ ap (λ (s : TileStep). first
 pub returns-in-TxInter : goal.returns-in-TxInter
 returns-in-TxInter c = c.check_tx_inter.ensures ∙ ap (λ (s : TileStep). first_broken (rules s (tile_of c.args.self.now))) (sym c.in-TxInter.is)
 
+pub returns-in-IsInter : goal.returns-in-IsInter
+returns-in-IsInter c = c.check_is_inter.ensures ∙ ap (λ (s : TileStep). first_broken (rules s (tile_of c.args.self.now))) (sym c.in-IsInter.is)
+
+pub returns-in-RefFrames : goal.returns-in-RefFrames
+returns-in-RefFrames c = c.check_ref_frames.ensures ∙ ap (λ (s : TileStep). first_broken (rules s (tile_of c.args.self.now))) (sym c.in-RefFrames.is)
+
+pub returns-in-InterMode : goal.returns-in-InterMode
+returns-in-InterMode c = c.check_inter_mode.ensures ∙ ap (λ (s : TileStep). first_broken (rules s (tile_of c.args.self.now))) (sym c.in-InterMode.is)
+
+pub returns-in-CompoundMode : goal.returns-in-CompoundMode
+returns-in-CompoundMode c = c.check_compound_mode.ensures ∙ ap (λ (s : TileStep). first_broken (rules s (tile_of c.args.self.now))) (sym c.in-CompoundMode.is)
+
+pub returns-in-Drl : goal.returns-in-Drl
+returns-in-Drl c = c.check_drl.ensures ∙ ap (λ (s : TileStep). first_broken (rules s (tile_of c.args.self.now))) (sym c.in-Drl.is)
+
+pub returns-in-MvRefs : goal.returns-in-MvRefs
+returns-in-MvRefs c = c.check_mv_refs.ensures ∙ ap (λ (s : TileStep). first_broken (rules s (tile_of c.args.self.now))) (sym c.in-MvRefs.is)
+
+pub returns-in-Mv : goal.returns-in-Mv
+returns-in-Mv c = c.check_mv.ensures ∙ ap (λ (s : TileStep). first_broken (rules s (tile_of c.args.self.now))) (sym c.in-Mv.is)
+
 pub returns-in-Coeffs : goal.returns-in-Coeffs
 returns-in-Coeffs c = c.check_coeffs.ensures ∙ ap (λ (s : TileStep). first_broken (rules s (tile_of c.args.self.now))) (sym c.in-Coeffs.is)
 

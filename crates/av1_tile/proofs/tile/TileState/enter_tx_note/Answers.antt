@@ -35,4 +35,4 @@ invariant_of-self c =
     let current : t.current ≡ Some c.unwrap-size.result = search rules in
     let e : record t { bc = c.update_tx_size_context.new.self } ≡ entered TxNote t =
     note_entered t c.unwrap-size.result c.standing_at-block.result c.is_skipped_inter-skip.result c.update_tx_size_context.new.self current c.standing_at-block.ensures c.is_skipped_inter-skip.ensures c.update_tx_size_context.ensures in
-    record { cdfs = c.args.self.now.cdfs; kept = subst IsKept (sym e) (kept_after TxNote t.numbers t c.args.self.now.cdfs c.args.self.now.kept c.requires) }
+    record { cdfs = c.args.self.now.cdfs; kept = subst IsKept (sym e) (kept_after TxNote t.numbers t c.args.self.now.cdfs c.args.self.now.kept c.requires); switches = c.args.self.now.switches }

@@ -1,6 +1,6 @@
 use Rattle.std.proofs.Common.{arith}
 use Rattle.av1_tile.specs.State.{tile_of}
-use Rattle.av1_tile.proofs.StepLaws.{is_paired}
+use Rattle.av1_tile.proofs.Ready.{is_paired}
 use Rattle.av1_tile.proofs.tile.TileState.is_allowed.Goals as goal
 
 pub overflow_add-has_cols : goal.overflow_add-has_cols

@@ -21,7 +21,7 @@ save_sb-requires g c =
 pub returns : goal.returns
 returns g c =
     let t = tile_of c.args.self.now in
-    let m : TrialMark = record { place = c.args.place; tell = c.tell_frac.result; writer = c.checkpoint.result; context = c.checkpoint-2.result; blocks = c.in_ok-save_sb.field-0; current = c.args.self.now.current; uv = c.args.self.now.uv } in
+    let m : TrialMark = record { place = c.args.place; tell = c.tell_frac.result; writer = c.checkpoint.result; context = c.checkpoint-2.result; blocks = c.in_ok-save_sb.field-0; current = c.args.self.now.current; uv = c.args.self.now.uv; cands = c.copy_of.result; pick = c.args.self.now.pick } in
     record {
       place_is = refl;
       tell_is = c.tell_frac.ensures;
@@ -35,6 +35,8 @@ returns g c =
           ∙ ap (λ (y : ℕ). saved_of (record { x = c.args.place.0.x / 16; y = y }) t.bc.blocks) c.sb_offset.ensures.y;
       current_is = refl;
       uv_is = refl;
+      cands_are = c.copy_of.ensures;
+      pick_is = refl;
       of_tile = marks_tile m t c.args.place c.sb_offset.result refl c.checkpoint-2.ensures.edges c.in_ok-save_sb.ensures c.sb_offset.ensures.x c.sb_offset.ensures.y c.args.self.now.kept c.requires;
-      back = marked_back m (log_of c.args.self.now) t c.args.place c.sb_offset.result c.checkpoint-2.ensures.edges c.in_ok-save_sb.ensures refl refl (c.checkpoint-2.ensures.context t.numbers) c.args.self.now.kept;
+      back = marked_back m (log_of c.args.self.now) t c.args.place c.sb_offset.result c.checkpoint-2.ensures.edges c.in_ok-save_sb.ensures refl refl c.copy_of.ensures refl (c.checkpoint-2.ensures.context t.numbers) c.args.self.now.kept;
     }

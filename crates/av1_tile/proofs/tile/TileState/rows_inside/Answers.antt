@@ -3,7 +3,7 @@ use Rattle.av1_geometry.specs.TxSize.{tx_height_log2}
 use Rattle.av1_tile.specs.State.{tile_of}
 use Rattle.av1_tile.proofs.CoeffFrame.{rows_same, left_by}
 use Rattle.av1_tile.proofs.Marking.{inside_is}
-use Rattle.av1_tile.proofs.StepLaws.{is_paired}
+use Rattle.av1_tile.proofs.Ready.{is_paired}
 use Rattle.av1_tile.proofs.tile.TileState.rows_inside.Goals as goal
 
 pub samples_inside-requires-clause-side : goal.samples_inside-requires-clause-side

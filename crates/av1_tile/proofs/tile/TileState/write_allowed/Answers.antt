@@ -5,15 +5,15 @@ use Rattle.av1_ec.proofs.MovesLaws.{moves_none}
 use Rattle.av1_geometry.specs.declared.block_offset.BlockOffset.{BlockOffset}
 use Rattle.av1_model.specs.Comes.{standing}
 use Rattle.av1_tile.specs.declared.unit.TileStep.{TileStep}
-use Rattle.av1_tile.specs.declared.unit.TileStep.TheVariants.{RowStart, Block, AngleDelta, TxNote}
+use Rattle.av1_tile.specs.declared.unit.TileStep.TheVariants.{RowStart, Block, AngleDelta}
 use Rattle.av1_tile.specs.State.{tile_of}
 use Rattle.av1_tile.specs.Step.{block_kind, entered, row_start_kind}
-use Rattle.av1_tile.specs.Tile.{Tile, with_numbers, CurrentBlock}
+use Rattle.av1_tile.specs.Tile.{Tile, with_numbers}
 use Rattle.av1_tile.specs.Writing.{Writes}
-use Rattle.av1_tile.specs.TransformSteps.{note, tx_note_kind}
-use Rattle.av1_tile.proofs.Arms.{writes_whole}
+use Rattle.av1_tile.proofs.Arms.{writes_numbers}
 use Rattle.av1_tile.proofs.StepLaws.{IsAllowed}
 use Rattle.av1_tile.proofs.TransformArms.{note_wrote}
+use Rattle.av1_tile.proofs.VectorArms.{refs_wrote}
 use Rattle.av1_tile.proofs.tile.TileState.write_allowed.Goals as goal
 
 pub enter_block-requires : goal.enter_block-requires
@@ -72,7 +72,7 @@ returns-in-RowStart g c =
     let t = tile_of c.args.self.now in
     let numbers : (tile_of c.enter_row.new.self).numbers ≡ t.numbers = ap (λ (x : Tile). x.numbers) c.enter_row.ensures.tile in
     rw (c.in-RowStart.is)
-    (writes_whole g.W.Known _ tt refl RowStart row_start_kind tt c.args.w.now c.args.w.now c.args.self.now c.enter_row.new.self (2 ^ 24) refl refl refl
+    (writes_numbers g.W.Known _ tt refl RowStart row_start_kind tt c.args.w.now c.args.w.now c.args.self.now c.enter_row.new.self (2 ^ 24) refl refl refl
     (record { symbols = []; follows = refl; fits = tt; wrote = ap (standing (g.W.Known.position c.args.w.now)) numbers })
     (c.enter_row.ensures.tile ∙ ap (λ (ns : List ℕ). entered RowStart (with_numbers ns t)) (sym numbers)) (omega arith)
     (moves_none g.W.Known _ _ _ _ _ _ c.enter_row.ensures.log numbers c.args.self.now.cdfs))
@@ -84,7 +84,7 @@ returns-in-Block g c =
     let allowed = subst (λ (s : TileStep). IsAllowed s t) c.in-Block.is c.requires.rules in
     let numbers : (tile_of c.enter_block.new.self).numbers ≡ t.numbers = ap (λ (x : Tile). x.numbers) c.enter_block.ensures.tile in
     rw (c.in-Block.is)
-    (writes_whole g.W.Known _ tt refl (Block c.in-Block.x c.in-Block.y c.in-Block.size) (block_kind bo c.in-Block.size t) tt c.args.w.now c.args.w.now c.args.self.now c.enter_block.new.self (2 ^ 24) refl refl allowed
+    (writes_numbers g.W.Known _ tt refl (Block c.in-Block.x c.in-Block.y c.in-Block.size) (block_kind bo c.in-Block.size t) tt c.args.w.now c.args.w.now c.args.self.now c.enter_block.new.self (2 ^ 24) refl refl allowed
     (record { symbols = []; follows = refl; fits = tt; wrote = ap (standing (g.W.Known.position c.args.w.now)) numbers })
     (c.enter_block.ensures.tile ∙ ap (λ (ns : List ℕ). entered (Block c.in-Block.x c.in-Block.y c.in-Block.size) (with_numbers ns t)) (sym numbers)) (omega arith)
     (moves_none g.W.Known _ _ _ _ _ _ c.enter_block.ensures.log numbers c.args.self.now.cdfs))
@@ -104,7 +104,33 @@ write_tx_intra-requires-clause-rules g c = subst (λ (s : TileStep). IsAllowed s
 pub write_tx_inter-requires-clause-rules : goal.write_tx_inter-requires-clause-rules
 write_tx_inter-requires-clause-rules g c = subst (λ (s : TileStep). IsAllowed s (tile_of c.args.self.now)) c.in-TxInter.is c.requires.rules
 
+pub write_is_inter-requires-clause-rules : goal.write_is_inter-requires-clause-rules
+write_is_inter-requires-clause-rules g c = subst (λ (s : TileStep). IsAllowed s (tile_of c.args.self.now)) c.in-IsInter.is c.requires.rules
+
+pub write_ref_frames-requires-clause-rules : goal.write_ref_frames-requires-clause-rules
+write_ref_frames-requires-clause-rules g c = subst (λ (s : TileStep). IsAllowed s (tile_of c.args.self.now)) c.in-RefFrames.is c.requires.rules
+
+pub write_inter_mode-requires-clause-rules : goal.write_inter_mode-requires-clause-rules
+write_inter_mode-requires-clause-rules g c = subst (λ (s : TileStep). IsAllowed s (tile_of c.args.self.now)) c.in-InterMode.is c.requires.rules
+
+pub write_compound_mode-requires-clause-rules : goal.write_compound_mode-requires-clause-rules
+write_compound_mode-requires-clause-rules g c = subst (λ (s : TileStep). IsAllowed s (tile_of c.args.self.now)) c.in-CompoundMode.is c.requires.rules
+
+pub write_drl-requires-clause-rules : goal.write_drl-requires-clause-rules
+write_drl-requires-clause-rules g c = subst (λ (s : TileStep). IsAllowed s (tile_of c.args.self.now)) c.in-Drl.is c.requires.rules
+
+pub enter_mv_refs-requires : goal.enter_mv_refs-requires
+enter_mv_refs-requires g c = subst (λ (s : TileStep). IsAllowed s (tile_of c.args.self.now)) c.in-MvRefs.is c.requires.rules
+
+pub write_mv-requires-clause-rules : goal.write_mv-requires-clause-rules
+write_mv-requires-clause-rules g c = subst (λ (s : TileStep). IsAllowed s (tile_of c.args.self.now)) c.in-Mv.is c.requires.rules
+
 pub returns-in-TxNote : goal.returns-in-TxNote
 returns-in-TxNote g c =
     rw (c.in-TxNote.is)
     (note_wrote g.W.Known c.args.w.now c.args.self.now c.enter_tx_note.new.self (subst (λ (s : TileStep). IsAllowed s (tile_of c.args.self.now)) c.in-TxNote.is c.requires.rules) c.enter_tx_note.ensures.tile c.enter_tx_note.ensures.log c.args.self.now.cdfs)
+
+pub returns-in-MvRefs : goal.returns-in-MvRefs
+returns-in-MvRefs g c =
+    rw (c.in-MvRefs.is)
+    (refs_wrote g.W.Known c.in-MvRefs.has_tr c.args.w.now c.args.self.now c.enter_mv_refs.new.self (subst (λ (s : TileStep). IsAllowed s (tile_of c.args.self.now)) c.in-MvRefs.is c.requires.rules) c.enter_mv_refs.ensures.tile c.enter_mv_refs.ensures.log c.args.self.now.cdfs)

@@ -7,10 +7,11 @@ use Rattle.av1_tile.specs.Effect.{Effect, changed_by_all}
 use Rattle.av1_tile.specs.Kept.{IsKept}
 use Rattle.av1_tile.specs.State.{tile_of}
 use Rattle.av1_tile.specs.Tile.{with_numbers}
-use Rattle.av1_tile.proofs.AngleSteps.{angle_as, angle_delta_allowed, IsTurnedBy}
+use Rattle.av1_tile.proofs.AngleSteps.{angle_as, angle_delta_allowed}
 use Rattle.av1_tile.proofs.Effects.{numbers_kept}
 use Rattle.av1_tile.proofs.FilterArms.{only_numbers, writes_same}
 use Rattle.av1_tile.proofs.OfCurrent.{current_there, current_allowed, current_effects, current_tree}
+use Rattle.av1_tile.proofs.Switches.{switched}
 use Rattle.av1_tile.proofs.tile.TileState.write_angle_delta.Goals as goal
 
 some_is : (o : Option PredictionMode) → (o ≡ None → ⊥) → is_some o ≡ true
@@ -69,7 +70,7 @@ pub invariant_of-self : goal.invariant_of-self
 invariant_of-self g c =
     let t = tile_of c.args.self.now in
     let fc = c.write_angle_delta.new.self.fc in
-    record { cdfs = c.write_angle_delta.ensures.moves.cdfs; kept = subst IsKept (sym (only_numbers t fc c.write_angle_delta.new.self.bc c.write_angle_delta.ensures.rest)) (numbers_kept fc t c.args.self.now.kept) }
+    record { cdfs = c.write_angle_delta.ensures.moves.cdfs; kept = subst IsKept (sym (only_numbers t fc c.write_angle_delta.new.self.bc c.write_angle_delta.ensures.rest)) (numbers_kept fc t c.args.self.now.kept); switches = switched _ _ _ _ _ _ _ _ _ c.write_angle_delta.ensures.moves c.args.self.now.switches }
 
 pub returns : goal.returns
 returns g c =

@@ -1,4 +1,4 @@
-use Rattle.std.proofs.Common.{◌≡◌, Option, Some, Ok, Err, refl, sym, ap, subst, ◌∙◌, arith, rules}
+use Rattle.std.proofs.Common.{◌≡◌, Some, refl, sym, subst, arith, rules}
 use Rattle.av1_blocks.specs.declared.block_context.BlockContext.{BlockContext}
 use Rattle.av1_blocks.specs.Grid.{IsInside}
 use Rattle.av1_tile.specs.declared.unit.TileStep.TheVariants.{Cdef}
@@ -11,6 +11,7 @@ use Rattle.av1_tile.proofs.FilterArms.{cdef_entered, only_numbers}
 use Rattle.av1_tile.proofs.FilterSteps.{cdef_allowed}
 use Rattle.av1_tile.proofs.OfCurrent.{current_allowed, current_tree}
 use Rattle.av1_tile.proofs.StepLaws.{kept_after}
+use Rattle.av1_tile.proofs.Switches.{switched}
 use Rattle.av1_tile.proofs.tile.TileState.write_cdef.Goals as goal
 
 pub write_cdef-requires-clause-bits : goal.write_cdef-requires-clause-bits
@@ -37,7 +38,7 @@ pub invariant_of-self : goal.invariant_of-self
 invariant_of-self g c =
     let t = tile_of c.args.self.now in
     let fc = c.write_cdef.new.self.fc in
-    record { cdfs = c.write_cdef.ensures.moves.cdfs; kept = subst IsKept (sym (only_numbers t fc c.write_cdef.new.self.bc c.write_cdef.ensures.rest)) (numbers_kept fc t c.args.self.now.kept) }
+    record { cdfs = c.write_cdef.ensures.moves.cdfs; kept = subst IsKept (sym (only_numbers t fc c.write_cdef.new.self.bc c.write_cdef.ensures.rest)) (numbers_kept fc t c.args.self.now.kept); switches = switched _ _ _ _ _ _ _ _ _ c.write_cdef.ensures.moves c.args.self.now.switches }
 
 pub returns-in_err-write_cdef : goal.returns-in_err-write_cdef
 returns-in_err-write_cdef g c =
@@ -56,7 +57,7 @@ invariant_of-self-2 g c =
     let b = c.unwrap-size.result in
     let current : t.current ≡ Some b = search rules in
     let e = cdef_entered t fc b c.args.index c.write_cdef.new.self.bc c.set_cdef_index.new.self current c.write_cdef.ensures.rest c.set_cdef_index.ensures in
-    record { cdfs = c.write_cdef.ensures.moves.cdfs; kept = subst IsKept (sym e) (kept_after (Cdef c.args.index) fc t c.write_cdef.ensures.moves.cdfs c.args.self.now.kept c.requires.rules) }
+    record { cdfs = c.write_cdef.ensures.moves.cdfs; kept = subst IsKept (sym e) (kept_after (Cdef c.args.index) fc t c.write_cdef.ensures.moves.cdfs c.args.self.now.kept c.requires.rules); switches = switched _ _ _ _ _ _ _ _ _ c.write_cdef.ensures.moves c.args.self.now.switches }
 
 pub returns : goal.returns
 returns g c =

@@ -1,7 +1,6 @@
-use Rattle.std.proofs.Common.{◌≡◌, ◌≤ℤ◌, ℤ, pos, negsuc, List, Option, Some, None, refl, sym, ap, subst, ◌∙◌, arith, w16}
+use Rattle.std.proofs.Common.{◌≡◌, ◌≤ℤ◌, ℤ, pos, negsuc, List, None, refl, sym, ap, subst, arith, w16}
 use Rattle.std.proofs.lemmas.Int.{to_z-of_z}
 use Rattle.av1_geometry.specs.Rules.{first_broken}
-use Rattle.av1_geometry.specs.declared.cfl.CFLParams.{CFLParams}
 use Rattle.av1_syntax.specs.Factors.{AreFactors}
 use Rattle.av1_tile.specs.declared.unit.TileStep.TheVariants.{CflAlphas}
 use Rattle.av1_tile.specs.AngleSteps.{cfl_alphas_kind}
@@ -14,6 +13,7 @@ use Rattle.av1_tile.proofs.AngleSteps.{params_are, params_coded, factors_as, fac
 use Rattle.av1_tile.proofs.Effects.{numbers_kept}
 use Rattle.av1_tile.proofs.FilterArms.{only_numbers, writes_same}
 use Rattle.av1_tile.proofs.OfCurrent.{current_there, current_allowed, current_effects, current_tree, some_block}
+use Rattle.av1_tile.proofs.Switches.{switched}
 use Rattle.av1_tile.proofs.tile.TileState.write_cfl_alphas.Goals as goal
 
 allowed : (t : Tile) (f : ℤ × ℤ) → first_broken (rules (CflAlphas f) t) ≡ None → AreFactors f
@@ -52,7 +52,7 @@ pub invariant_of-self : goal.invariant_of-self
 invariant_of-self g c =
     let t = tile_of c.args.self.now in
     let fc = c.write_cfl_alphas.new.self.fc in
-    record { cdfs = c.write_cfl_alphas.ensures.moves.cdfs; kept = subst IsKept (sym (only_numbers t fc c.write_cfl_alphas.new.self.bc c.write_cfl_alphas.ensures.rest)) (numbers_kept fc t c.args.self.now.kept) }
+    record { cdfs = c.write_cfl_alphas.ensures.moves.cdfs; kept = subst IsKept (sym (only_numbers t fc c.write_cfl_alphas.new.self.bc c.write_cfl_alphas.ensures.rest)) (numbers_kept fc t c.args.self.now.kept); switches = switched _ _ _ _ _ _ _ _ _ c.write_cfl_alphas.ensures.moves c.args.self.now.switches }
 
 pub returns : goal.returns
 returns g c =

@@ -1,19 +1,13 @@
-use Rattle.std.proofs.Common.{◌≡◌, ◌^◌, ◌≤◌, ℕ, ℤ, List, Option, Some, Ok, Err, true, ◌<◌, unsigned_abs, slice_index_or, pos, length, map, refl, sym, ap, subst, ◌∙◌, arith, rules}
-use Rattle.av1_blocks.specs.declared.block_context.BlockContext.{BlockContext}
-use Rattle.av1_geometry.specs.declared.block_offset.BlockOffset.{BlockOffset}
+use Rattle.std.proofs.Common.{◌≡◌, ◌^◌, ◌≤◌, ℕ, ℤ, List, Some, Ok, Err, true, ◌<◌, unsigned_abs, slice_index_or, pos, length, map, refl, sym, ap, subst, ◌∙◌, arith, rules}
 use Rattle.av1_coef.specs.Scans.{each_once, scan_of}
 use Rattle.av1_geometry.specs.TxTables.{class_of}
-use Rattle.av1_model.specs.Comes.{standing}
 use Rattle.av1_syntax.specs.Coefficients.{levels_at, HasType}
-use Rattle.av1_tile.specs.declared.unit.TileStep.TheVariants.{Coeffs}
+use Rattle.av1_syntax.specs.Calls.{stands}
 use Rattle.av1_tile.specs.CoeffSteps.{transform_of}
-use Rattle.av1_tile.specs.Kept.{IsKept}
 use Rattle.av1_tile.specs.State.{tile_of}
-use Rattle.av1_tile.specs.Tile.{with_numbers}
 use Rattle.av1_tile.proofs.CoeffWriting.{asked_is, block_there, call_coded, call_few, call_fits, call_mode, call_scan, call_small, call_type, coeffs_entered, coeffs_kept, coeffs_refused, coeffs_written, each_there, err_is, fits_is, laid_is, map_same, none_laid, written_is}
-use Rattle.av1_tile.proofs.Effects.{numbers_kept}
 use Rattle.av1_tile.proofs.FilterArms.{only_numbers}
-use Rattle.av1_tile.proofs.StepLaws.{kept_after}
+use Rattle.av1_tile.proofs.Switches.{switched}
 use Rattle.av1_tile.proofs.tile.TileState.write_coeffs.Goals as goal
 
 pub unwrap-b-requires : goal.unwrap-b-requires
@@ -192,7 +186,7 @@ invariant_of-self g c =
     let laid_same : laid ≡ a.levels.now = laid_is c.by_position-coeffs.result c.deref.result.now a.levels.now c.deref-2.result.now c.scan-scan.result.now c.len.result c.by_position-coeffs.ensures.levels_are same there count in
     let new = c.write_coeffs_lv_map.new.self in
     let ens = c.write_coeffs_lv_map.ensures in
-    record { cdfs = ens.moves.cdfs; kept = coeffs_kept a.plane a.x a.y a.tx_type a.levels.now c.write_coeffs_lv_map.result t b new.fc new.bc of laid a.self.now.kept ens.moves.cdfs current c.requires.rules c.transform-of.ensures laid_same ens.edges ens.refused }
+    record { cdfs = ens.moves.cdfs; kept = coeffs_kept a.plane a.x a.y a.tx_type a.levels.now c.write_coeffs_lv_map.result t b new.fc new.bc of laid a.self.now.kept ens.moves.cdfs current c.requires.rules c.transform-of.ensures laid_same ens.edges ens.refused; switches = switched _ _ _ _ _ _ _ _ _ ens.moves a.self.now.switches }
 
 pub returns-in_err-write_coeffs_lv_map : goal.returns-in_err-write_coeffs_lv_map
 returns-in_err-write_coeffs_lv_map g c =
@@ -210,10 +204,10 @@ returns-in_err-write_coeffs_lv_map g c =
     let new = c.write_coeffs_lv_map.new.self in
     let ens = c.in_err-write_coeffs_lv_map.ensures in
     let e = err_is c.from_residual.result c.from_residual.ensures.0 in
-    let from = standing (g.W.Known.position a.w.now) t.numbers in
-    let to = standing (g.W.Known.position c.write_coeffs_lv_map.new.w) new.fc in
+    let from = stands g.W.Known a.w.now a.self.now.cw in
+    let to = stands g.W.Known c.write_coeffs_lv_map.new.w new in
     coeffs_refused a.plane a.x a.y a.tx_type a.levels.now g.W.Known b _ _ _ _ current c.requires.rules ens.moves e.0
-    (written_is a.plane a.x a.y a.tx_type a.levels.now {U = Unit {0}} (Err e.0) t b of laid from to c.transform-of.ensures laid_same (ens.wrote (scan_of t.given.scans of.tx_size) (sym scan))) (only_numbers t new.fc new.bc ens.refused) c.from_residual.result e.1
+    (written_is a.plane a.x a.y a.tx_type a.levels.now {U = Unit {0}} (Err e.0) t b of a.self.now.cw.eob_by_coded laid from to a.self.now.switches.eob_by_coded_is c.transform-of.ensures laid_same (ens.wrote (scan_of t.given.scans of.tx_size) (sym scan))) (only_numbers t new.fc new.bc ens.refused) c.from_residual.result e.1
 
 pub returns : goal.returns
 returns g c =
@@ -230,8 +224,8 @@ returns g c =
     let scan : c.scan-scan.result.now ≡ scan_of t.given.scans of.tx_size (class_of a.tx_type) = c.scan-scan.ensures ∙ ap (scan_of t.given.scans of.tx_size) c.class.ensures in
     let new = c.write_coeffs_lv_map.new.self in
     let ens = c.in_ok-write_coeffs_lv_map.ensures in
-    let from = standing (g.W.Known.position a.w.now) t.numbers in
-    let to = standing (g.W.Known.position c.write_coeffs_lv_map.new.w) new.fc in
+    let from = stands g.W.Known a.w.now a.self.now.cw in
+    let to = stands g.W.Known c.write_coeffs_lv_map.new.w new in
     coeffs_written a.plane a.x a.y a.tx_type a.levels.now g.W.Known b _ _ _ _ current c.requires.rules ens.moves tt
-    (written_is a.plane a.x a.y a.tx_type a.levels.now {U = Unit {0}} {E = Unit {0}} (Ok tt) t b of laid from to c.transform-of.ensures laid_same (ens.wrote (scan_of t.given.scans of.tx_size) (sym scan)))
+    (written_is a.plane a.x a.y a.tx_type a.levels.now {U = Unit {0}} {E = Unit {0}} (Ok tt) t b of a.self.now.cw.eob_by_coded laid from to a.self.now.switches.eob_by_coded_is c.transform-of.ensures laid_same (ens.wrote (scan_of t.given.scans of.tx_size) (sym scan)))
     (coeffs_entered a.plane a.x a.y a.tx_type a.levels.now t b new.fc new.bc of laid current c.transform-of.ensures laid_same ens.edges) (Ok tt) refl

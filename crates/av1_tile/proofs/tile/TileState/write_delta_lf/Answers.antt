@@ -1,4 +1,4 @@
-use Rattle.std.proofs.Common.{◌≡◌, Option, Some, None, Ok, Err, refl, sym, ap, subst, ◌∙◌, arith, rules}
+use Rattle.std.proofs.Common.{◌≡◌, Some, refl, sym, subst, ◌∙◌, arith, rules}
 use Rattle.av1_blocks.specs.declared.block.Block.{Block}
 use Rattle.av1_blocks.specs.declared.block_context.BlockContext.{BlockContext}
 use Rattle.av1_blocks.specs.Grid.{IsInside}
@@ -9,13 +9,14 @@ use Rattle.av1_tile.specs.DeltaSteps.{delta_lf_kind}
 use Rattle.av1_tile.specs.Kept.{IsKept}
 use Rattle.av1_tile.specs.State.{tile_of}
 use Rattle.av1_tile.specs.Step.{entered}
-use Rattle.av1_tile.specs.Tile.{Tile, sampling, with_numbers}
+use Rattle.av1_tile.specs.Tile.{sampling, with_numbers}
 use Rattle.av1_tile.proofs.Arms.{writes_whole, writes_front}
 use Rattle.av1_tile.proofs.DeltaSteps.{is_whole, over_entered, delta_lf_allowed, planes_are, deltas_front, deltas_whole}
 use Rattle.av1_tile.proofs.Effects.{numbers_kept}
 use Rattle.av1_tile.proofs.FilterArms.{only_numbers}
 use Rattle.av1_tile.proofs.OfCurrent.{current_there, current_allowed, current_tree, current_entered}
 use Rattle.av1_tile.proofs.StepLaws.{kept_after}
+use Rattle.av1_tile.proofs.Switches.{switched}
 use Rattle.av1_tile.proofs.tile.TileState.write_delta_lf.Goals as goal
 
 pub unwrap-size-requires : goal.unwrap-size-requires
@@ -54,7 +55,7 @@ pub invariant_of-self : goal.invariant_of-self
 invariant_of-self g c =
     let t = tile_of c.args.self.now in
     let fc = c.code_deltas.new.cw.fc in
-    record { cdfs = c.code_deltas.ensures.moves.cdfs; kept = subst IsKept (sym (only_numbers t fc c.code_deltas.new.cw.bc c.code_deltas.ensures.rest)) (numbers_kept fc t c.args.self.now.kept) }
+    record { cdfs = c.code_deltas.ensures.moves.cdfs; kept = subst IsKept (sym (only_numbers t fc c.code_deltas.new.cw.bc c.code_deltas.ensures.rest)) (numbers_kept fc t c.args.self.now.kept); switches = switched _ _ _ _ _ _ _ _ _ c.code_deltas.ensures.moves c.args.self.now.switches }
 
 pub returns-in_err-code_deltas : goal.returns-in_err-code_deltas
 returns-in_err-code_deltas g c =
@@ -78,7 +79,7 @@ invariant_of-self-2 g c =
     let bc = c.code_deltas.new.cw.bc in
     let e : record t { numbers = fc; bc = record bc { blocks = c.set_deblock_deltas.new.self } } ≡ entered (DeltaLf ds) u =
     over_entered t b (λ (x : Block). record x { deblock_deltas = ds }) fc bc c.set_deblock_deltas.new.self c.code_deltas.ensures.rest c.set_deblock_deltas.ensures ∙ current_entered DeltaLf (delta_lf_kind u) u.current b current u ds in
-    record { cdfs = c.code_deltas.ensures.moves.cdfs; kept = subst IsKept (sym e) (kept_after (DeltaLf ds) fc t c.code_deltas.ensures.moves.cdfs c.args.self.now.kept c.requires.rules) }
+    record { cdfs = c.code_deltas.ensures.moves.cdfs; kept = subst IsKept (sym e) (kept_after (DeltaLf ds) fc t c.code_deltas.ensures.moves.cdfs c.args.self.now.kept c.requires.rules); switches = switched _ _ _ _ _ _ _ _ _ c.code_deltas.ensures.moves c.args.self.now.switches }
 
 pub returns : goal.returns
 returns g c =

@@ -8,13 +8,14 @@ use Rattle.av1_tile.specs.Tile.{with_numbers}
 use Rattle.av1_tile.proofs.Effects.{numbers_kept}
 use Rattle.av1_tile.proofs.FilterArms.{only_numbers, writes_same}
 use Rattle.av1_tile.proofs.OfCurrent.{current_allowed, current_effects, current_tree}
+use Rattle.av1_tile.proofs.Switches.{switched}
 use Rattle.av1_tile.proofs.tile.TileState.write_filter_intra.Goals as goal
 
 pub invariant_of-self : goal.invariant_of-self
 invariant_of-self g c =
     let t = tile_of c.args.self.now in
     let fc = c.write_use_filter_intra.new.self.fc in
-    record { cdfs = c.write_use_filter_intra.ensures.moves.cdfs; kept = subst IsKept (sym (only_numbers t fc c.write_use_filter_intra.new.self.bc c.write_use_filter_intra.ensures.rest)) (numbers_kept fc t c.args.self.now.kept) }
+    record { cdfs = c.write_use_filter_intra.ensures.moves.cdfs; kept = subst IsKept (sym (only_numbers t fc c.write_use_filter_intra.new.self.bc c.write_use_filter_intra.ensures.rest)) (numbers_kept fc t c.args.self.now.kept); switches = switched _ _ _ _ _ _ _ _ _ c.write_use_filter_intra.ensures.moves c.args.self.now.switches }
 
 pub returns : goal.returns
 returns g c =

@@ -1,19 +1,18 @@
-use Rattle.std.proofs.Common.{◌≡◌, [], ◌∷◌, Option, Some, None, Ok, Err, refl, sym, ap, subst, ◌∙◌, arith, rules}
+use Rattle.std.proofs.Common.{◌≡◌, Some, refl, sym, ap, subst, ◌∙◌, arith, rules}
 use Rattle.av1_blocks.specs.declared.block_context.BlockContext.{BlockContext}
-use Rattle.av1_blocks.specs.Grid.{Grid, IsInside, over}
-use Rattle.av1_geometry.specs.Rules.{first_broken}
+use Rattle.av1_blocks.specs.Grid.{IsInside}
 use Rattle.av1_tile.specs.declared.unit.TileStep.TheVariants.{IntraModeKf}
 use Rattle.av1_tile.specs.IntraSteps.{intra_mode_kf_kind}
 use Rattle.av1_tile.specs.Kept.{IsKept}
-use Rattle.av1_tile.specs.Kind.{rules_of}
 use Rattle.av1_tile.specs.State.{tile_of}
 use Rattle.av1_tile.specs.Step.{entered}
-use Rattle.av1_tile.specs.Tile.{Tile, with_numbers}
+use Rattle.av1_tile.specs.Tile.{with_numbers}
 use Rattle.av1_tile.proofs.Arms.{writes_whole, writes_front}
 use Rattle.av1_tile.proofs.OfCurrent.{current_there, current_allowed, current_tree, current_entered}
 use Rattle.av1_tile.proofs.Effects.{numbers_kept}
 use Rattle.av1_tile.proofs.IntraSteps.{intra_neighbours, intra_mode_kf_allowed, mode_entered}
 use Rattle.av1_tile.proofs.StepLaws.{kept_after}
+use Rattle.av1_tile.proofs.Switches.{switched}
 use Rattle.av1_tile.proofs.tile.TileState.write_intra_mode_kf.Goals as goal
 
 pub unwrap-size-requires : goal.unwrap-size-requires
@@ -51,7 +50,7 @@ invariant_of-self g c =
     let t = tile_of c.args.self.now in
     let fc = c.write_intra_mode_kf.new.self.fc in
     let e : record t { numbers = fc; bc = c.write_intra_mode_kf.new.self.bc } ≡ with_numbers fc t = ap (λ (bc : BlockContext). record t { numbers = fc; bc = bc }) c.write_intra_mode_kf.ensures.rest in
-    record { cdfs = c.write_intra_mode_kf.ensures.moves.cdfs; kept = subst IsKept (sym e) (numbers_kept fc t c.args.self.now.kept) }
+    record { cdfs = c.write_intra_mode_kf.ensures.moves.cdfs; kept = subst IsKept (sym e) (numbers_kept fc t c.args.self.now.kept); switches = switched _ _ _ _ _ _ _ _ _ c.write_intra_mode_kf.ensures.moves c.args.self.now.switches }
 
 pub returns-in_err-write_intra_mode_kf : goal.returns-in_err-write_intra_mode_kf
 returns-in_err-write_intra_mode_kf g c =
@@ -76,7 +75,7 @@ invariant_of-self-2 g c =
     let current : t.current ≡ Some b = search rules in
     let e : record t { numbers = fc; bc = record c.write_intra_mode_kf.new.self.bc { blocks = c.set_mode.new.self } } ≡ entered (IntraModeKf m) u =
     mode_entered t b m fc c.write_intra_mode_kf.new.self.bc c.set_mode.new.self c.write_intra_mode_kf.ensures.rest c.set_mode.ensures ∙ current_entered IntraModeKf (intra_mode_kf_kind u) u.current b current u m in
-    record { cdfs = c.write_intra_mode_kf.ensures.moves.cdfs; kept = subst IsKept (sym e) (kept_after (IntraModeKf m) fc t c.write_intra_mode_kf.ensures.moves.cdfs c.args.self.now.kept c.requires.rules) }
+    record { cdfs = c.write_intra_mode_kf.ensures.moves.cdfs; kept = subst IsKept (sym e) (kept_after (IntraModeKf m) fc t c.write_intra_mode_kf.ensures.moves.cdfs c.args.self.now.kept c.requires.rules); switches = switched _ _ _ _ _ _ _ _ _ c.write_intra_mode_kf.ensures.moves c.args.self.now.switches }
 
 pub returns : goal.returns
 returns g c =

@@ -2,6 +2,7 @@ use Rattle.std.proofs.Common.{refl}
 use Rattle.av1_tile.specs.State.{tile_of}
 use Rattle.av1_tile.proofs.RestorationArms.{lrf_kept, lrf_writes}
 use Rattle.av1_tile.proofs.RestorationSteps.{lrf_allowed}
+use Rattle.av1_tile.proofs.Switches.{switched}
 use Rattle.av1_tile.proofs.tile.TileState.write_lrf.Goals as goal
 
 pub write_lrf-requires-clause-plane : goal.write_lrf-requires-clause-plane
@@ -22,6 +23,7 @@ invariant_of-self g c =
     record {
       cdfs = e.moves.cdfs;
       kept = lrf_kept c.write_lrf.result (tile_of c.args.self.now) c.write_lrf.new.self.fc c.write_lrf.new.self.bc c.write_lrf.new.rs c.args.plane c.args.filter c.args.self.now.kept e.moves.cdfs c.requires.rules e.rest e.renewed e.refused;
+      switches = switched _ _ _ _ _ _ _ _ _ e.moves c.args.self.now.switches;
     }
 
 pub returns : goal.returns

@@ -1,7 +1,6 @@
 use Rattle.std.proofs.Common.{◌≡◌, ◌&&◌, List, Some, refl, sym, ap, subst, ◌∙◌, arith, rules}
 use Rattle.av1_geometry.specs.Chroma.{has_chroma_at}
 use Rattle.av1_geometry.specs.ChromaSampling.{xdec_of}
-use Rattle.av1_geometry.specs.declared.prediction_mode.PredictionMode.{PredictionMode}
 use Rattle.av1_syntax.specs.Palette.{is_dc}
 use Rattle.av1_tile.specs.declared.unit.TileStep.TheVariants.{Palette}
 use Rattle.av1_tile.specs.Effect.{Effect, changed_by_all}
@@ -14,6 +13,7 @@ use Rattle.av1_tile.proofs.Effects.{numbers_kept}
 use Rattle.av1_tile.proofs.FilterArms.{only_numbers, palette_as, writes_same}
 use Rattle.av1_tile.proofs.FilterSteps.{palette_allowed}
 use Rattle.av1_tile.proofs.OfCurrent.{current_allowed, current_effects, current_tree}
+use Rattle.av1_tile.proofs.Switches.{switched}
 use Rattle.av1_tile.proofs.tile.TileState.write_palette.Goals as goal
 
 pub write_use_palette_mode-requires-clause-off : goal.write_use_palette_mode-requires-clause-off
@@ -44,7 +44,7 @@ pub invariant_of-self : goal.invariant_of-self
 invariant_of-self g c =
     let t = tile_of c.args.self.now in
     let fc = c.write_use_palette_mode.new.self.fc in
-    record { cdfs = c.write_use_palette_mode.ensures.moves.cdfs; kept = subst IsKept (sym (only_numbers t fc c.write_use_palette_mode.new.self.bc c.write_use_palette_mode.ensures.rest)) (numbers_kept fc t c.args.self.now.kept) }
+    record { cdfs = c.write_use_palette_mode.ensures.moves.cdfs; kept = subst IsKept (sym (only_numbers t fc c.write_use_palette_mode.new.self.bc c.write_use_palette_mode.ensures.rest)) (numbers_kept fc t c.args.self.now.kept); switches = switched _ _ _ _ _ _ _ _ _ c.write_use_palette_mode.ensures.moves c.args.self.now.switches }
 
 pub returns : goal.returns
 returns g c =

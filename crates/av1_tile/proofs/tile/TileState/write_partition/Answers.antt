@@ -1,4 +1,4 @@
-use Rattle.std.proofs.Common.{◌≡◌, ℕ, Bool, true, false, Option, Some, None, Ok, Err, refl, sym, ap, subst, ◌∙◌, arith, rules}
+use Rattle.std.proofs.Common.{◌≡◌, true, false, Some, None, refl, sym, ap, subst, ◌∙◌, arith, rules}
 use Rattle.av1_blocks.specs.declared.block_context.BlockContext.{BlockContext}
 use Rattle.av1_blocks.specs.Edges.{with_partition}
 use Rattle.av1_geometry.specs.declared.block_offset.BlockOffset.{BlockOffset}
@@ -7,10 +7,11 @@ use Rattle.av1_tile.specs.declared.unit.TileStep.TheVariants.{Partition}
 use Rattle.av1_tile.specs.Kept.{IsKept}
 use Rattle.av1_tile.specs.State.{tile_of}
 use Rattle.av1_tile.specs.Step.{entered, is_split_on, partition_kind}
-use Rattle.av1_tile.specs.Tile.{Tile, with_numbers}
+use Rattle.av1_tile.specs.Tile.{with_numbers}
 use Rattle.av1_tile.proofs.Arms.{writes_whole, writes_front, partition_allowed, parted_split, parted_one, block_within}
 use Rattle.av1_tile.proofs.Effects.{numbers_kept}
 use Rattle.av1_tile.proofs.StepLaws.{kept_after, parted_block}
+use Rattle.av1_tile.proofs.Switches.{switched}
 use Rattle.av1_tile.proofs.tile.TileState.write_partition.Goals as goal
 
 pub write_partition-requires-clause-place : goal.write_partition-requires-clause-place
@@ -24,21 +25,21 @@ invariant_of-self g c =
     let t = tile_of c.args.self.now in
     let fc = c.write_partition.new.self.fc in
     let e : record t { numbers = fc; bc = c.write_partition.new.self.bc } ≡ with_numbers fc t = ap (λ (bc : BlockContext). record t { numbers = fc; bc = bc }) c.write_partition.ensures.rest in
-    record { cdfs = c.write_partition.ensures.moves.cdfs; kept = subst IsKept (sym e) (numbers_kept fc t c.args.self.now.kept) }
+    record { cdfs = c.write_partition.ensures.moves.cdfs; kept = subst IsKept (sym e) (numbers_kept fc t c.args.self.now.kept); switches = switched _ _ _ _ _ _ _ _ _ c.write_partition.ensures.moves c.args.self.now.switches }
 
 pub invariant_of-self-then-is_split_on : goal.invariant_of-self-then-is_split_on
 invariant_of-self-then-is_split_on g c =
     let t = tile_of c.args.self.now in
     let fc = c.write_partition.new.self.fc in
     let e : record t { numbers = fc; bc = c.write_partition.new.self.bc } ≡ with_numbers fc t = ap (λ (bc : BlockContext). record t { numbers = fc; bc = bc }) c.write_partition.ensures.rest in
-    record { cdfs = c.write_partition.ensures.moves.cdfs; kept = subst IsKept (sym e) (numbers_kept fc t c.args.self.now.kept) }
+    record { cdfs = c.write_partition.ensures.moves.cdfs; kept = subst IsKept (sym e) (numbers_kept fc t c.args.self.now.kept); switches = switched _ _ _ _ _ _ _ _ _ c.write_partition.ensures.moves c.args.self.now.switches }
 
 pub invariant_of-self-in_default : goal.invariant_of-self-in_default
 invariant_of-self-in_default g c =
     let t = tile_of c.args.self.now in
     let fc = c.write_partition.new.self.fc in
     let e : record t { numbers = fc; bc = c.write_partition.new.self.bc } ≡ with_numbers fc t = ap (λ (bc : BlockContext). record t { numbers = fc; bc = bc }) c.write_partition.ensures.rest in
-    record { cdfs = c.write_partition.ensures.moves.cdfs; kept = subst IsKept (sym e) (numbers_kept fc t c.args.self.now.kept) }
+    record { cdfs = c.write_partition.ensures.moves.cdfs; kept = subst IsKept (sym e) (numbers_kept fc t c.args.self.now.kept); switches = switched _ _ _ _ _ _ _ _ _ c.write_partition.ensures.moves c.args.self.now.switches }
 
 pub returns-in_err-write_partition : goal.returns-in_err-write_partition
 returns-in_err-write_partition g c =
@@ -83,7 +84,7 @@ invariant_of-self-in-Some g c =
     let e : record t { numbers = fc; bc = c.update_partition_context.new.self } ≡ entered (Partition c.args.x c.args.y c.args.size c.args.p) u =
     ap (λ (bc : BlockContext). record t { numbers = fc; bc = bc }) (c.update_partition_context.ensures ∙ ap (λ (bc : BlockContext). with_partition bo s c.args.size bc) c.write_partition.ensures.rest)
     ∙ sym (parted_one c.args.x c.args.y c.args.size c.args.p u (Some s) split sub) in
-    record { cdfs = c.write_partition.ensures.moves.cdfs; kept = subst IsKept (sym e) (kept_after (Partition c.args.x c.args.y c.args.size c.args.p) fc t c.write_partition.ensures.moves.cdfs c.args.self.now.kept c.requires.rules) }
+    record { cdfs = c.write_partition.ensures.moves.cdfs; kept = subst IsKept (sym e) (kept_after (Partition c.args.x c.args.y c.args.size c.args.p) fc t c.write_partition.ensures.moves.cdfs c.args.self.now.kept c.requires.rules); switches = switched _ _ _ _ _ _ _ _ _ c.write_partition.ensures.moves c.args.self.now.switches }
 
 pub returns-in-Some : goal.returns-in-Some
 returns-in-Some g c =

@@ -1,4 +1,4 @@
-use Rattle.std.proofs.Common.{◌≡◌, Option, Some, None, Ok, Err, refl, sym, ap, subst, ◌∙◌, arith, rules}
+use Rattle.std.proofs.Common.{◌≡◌, Some, refl, sym, subst, ◌∙◌, arith, rules}
 use Rattle.av1_blocks.specs.declared.block.Block.{Block}
 use Rattle.av1_blocks.specs.declared.block_context.BlockContext.{BlockContext}
 use Rattle.av1_blocks.specs.Grid.{IsInside}
@@ -7,13 +7,14 @@ use Rattle.av1_tile.specs.DeltaSteps.{segment_kind}
 use Rattle.av1_tile.specs.Kept.{IsKept}
 use Rattle.av1_tile.specs.State.{tile_of}
 use Rattle.av1_tile.specs.Step.{entered}
-use Rattle.av1_tile.specs.Tile.{Tile, with_numbers}
+use Rattle.av1_tile.specs.Tile.{with_numbers}
 use Rattle.av1_tile.proofs.Arms.{writes_whole, writes_front}
 use Rattle.av1_tile.proofs.DeltaSteps.{is_whole, over_entered, segment_allowed}
 use Rattle.av1_tile.proofs.Effects.{numbers_kept}
 use Rattle.av1_tile.proofs.FilterArms.{only_numbers}
 use Rattle.av1_tile.proofs.OfCurrent.{current_there, current_allowed, current_tree, current_entered}
 use Rattle.av1_tile.proofs.StepLaws.{kept_after}
+use Rattle.av1_tile.proofs.Switches.{switched}
 use Rattle.av1_tile.proofs.tile.TileState.write_segment.Goals as goal
 
 pub unwrap-size-requires : goal.unwrap-size-requires
@@ -52,7 +53,7 @@ pub invariant_of-self : goal.invariant_of-self
 invariant_of-self g c =
     let t = tile_of c.args.self.now in
     let fc = c.code_segment.new.cw.fc in
-    record { cdfs = c.code_segment.ensures.moves.cdfs; kept = subst IsKept (sym (only_numbers t fc c.code_segment.new.cw.bc c.code_segment.ensures.rest)) (numbers_kept fc t c.args.self.now.kept) }
+    record { cdfs = c.code_segment.ensures.moves.cdfs; kept = subst IsKept (sym (only_numbers t fc c.code_segment.new.cw.bc c.code_segment.ensures.rest)) (numbers_kept fc t c.args.self.now.kept); switches = switched _ _ _ _ _ _ _ _ _ c.code_segment.ensures.moves c.args.self.now.switches }
 
 pub returns-in_err-code_segment : goal.returns-in_err-code_segment
 returns-in_err-code_segment g c =
@@ -76,7 +77,7 @@ invariant_of-self-2 g c =
     let bc = c.code_segment.new.cw.bc in
     let e : record t { numbers = fc; bc = record bc { blocks = c.set_segmentation_idx.new.self } } ≡ entered (Segment i) u =
     over_entered t b (λ (x : Block). record x { segmentation_idx = i }) fc bc c.set_segmentation_idx.new.self c.code_segment.ensures.rest c.set_segmentation_idx.ensures ∙ current_entered Segment (segment_kind u) u.current b current u i in
-    record { cdfs = c.code_segment.ensures.moves.cdfs; kept = subst IsKept (sym e) (kept_after (Segment i) fc t c.code_segment.ensures.moves.cdfs c.args.self.now.kept c.requires.rules) }
+    record { cdfs = c.code_segment.ensures.moves.cdfs; kept = subst IsKept (sym e) (kept_after (Segment i) fc t c.code_segment.ensures.moves.cdfs c.args.self.now.kept c.requires.rules); switches = switched _ _ _ _ _ _ _ _ _ c.code_segment.ensures.moves c.args.self.now.switches }
 
 pub returns : goal.returns
 returns g c =

@@ -1,4 +1,4 @@
-use Rattle.std.proofs.Common.{◌≡◌, ℕ, [], ◌∷◌, Bool, true, false, Option, Some, Ok, Err, refl, sym, ap, subst, ◌∙◌, arith, rules, if◌then◌else◌}
+use Rattle.std.proofs.Common.{◌≡◌, [], ◌∷◌, Some, refl, sym, ap, subst, ◌∙◌, arith, rules, if◌then◌else◌}
 use Rattle.av1_blocks.specs.declared.block.Block.{Block}
 use Rattle.av1_blocks.specs.declared.block_context.BlockContext.{BlockContext}
 use Rattle.av1_blocks.specs.Edges.{with_skip_reset, planes_coded}
@@ -9,10 +9,11 @@ use Rattle.av1_tile.specs.Effect.{Over, Unfilled, changed_by_all}
 use Rattle.av1_tile.specs.Kept.{IsKept}
 use Rattle.av1_tile.specs.State.{tile_of}
 use Rattle.av1_tile.specs.Step.{entered, skip_kind}
-use Rattle.av1_tile.specs.Tile.{Tile, CurrentBlock, with_numbers, sampling}
+use Rattle.av1_tile.specs.Tile.{with_numbers, sampling}
 use Rattle.av1_tile.proofs.Arms.{writes_whole, writes_front, block_within, skip_tree, skip_entered, skip_rules}
 use Rattle.av1_tile.proofs.Effects.{numbers_kept}
 use Rattle.av1_tile.proofs.StepLaws.{kept_after}
+use Rattle.av1_tile.proofs.Switches.{switched}
 use Rattle.av1_tile.proofs.tile.TileState.write_skip.Goals as goal
 
 pub write_skip-requires-clause-inside : goal.write_skip-requires-clause-inside
@@ -38,7 +39,7 @@ invariant_of-self g c =
     let t = tile_of c.args.self.now in
     let fc = c.write_skip.new.self.fc in
     let e : record t { numbers = fc; bc = c.write_skip.new.self.bc } ≡ with_numbers fc t = ap (λ (bc : BlockContext). record t { numbers = fc; bc = bc }) c.write_skip.ensures.rest in
-    record { cdfs = c.write_skip.ensures.moves.cdfs; kept = subst IsKept (sym e) (numbers_kept fc t c.args.self.now.kept) }
+    record { cdfs = c.write_skip.ensures.moves.cdfs; kept = subst IsKept (sym e) (numbers_kept fc t c.args.self.now.kept); switches = switched _ _ _ _ _ _ _ _ _ c.write_skip.ensures.moves c.args.self.now.switches }
 
 pub returns-in_err-write_skip : goal.returns-in_err-write_skip
 returns-in_err-write_skip g c =
@@ -73,7 +74,7 @@ invariant_of-self-then-skip g c =
     let e : record t { numbers = fc; bc = c.reset_skip_context.new.self } ≡ entered (Skip c.args.skip) u =
     ap (λ (bc : BlockContext). record t { numbers = fc; bc = bc }) edges
     ∙ sym (skip_entered u c.args.skip b current ∙ ap (λ d. changed_by_all (Over bo size f ∷ (if d then Unfilled bo size ∷ [] else [])) u) c.if-skip.true) in
-    record { cdfs = c.write_skip.ensures.moves.cdfs; kept = subst IsKept (sym e) (kept_after (Skip c.args.skip) fc t c.write_skip.ensures.moves.cdfs c.args.self.now.kept c.requires.rules) }
+    record { cdfs = c.write_skip.ensures.moves.cdfs; kept = subst IsKept (sym e) (kept_after (Skip c.args.skip) fc t c.write_skip.ensures.moves.cdfs c.args.self.now.kept c.requires.rules); switches = switched _ _ _ _ _ _ _ _ _ c.write_skip.ensures.moves c.args.self.now.switches }
 
 pub returns-then-skip : goal.returns-then-skip
 returns-then-skip g c =
@@ -116,7 +117,7 @@ invariant_of-self-else-skip g c =
     let e : record t { numbers = fc; bc = record c.write_skip.new.self.bc { blocks = c.set_skip.new.self } } ≡ entered (Skip c.args.skip) u =
     ap (λ (bc : BlockContext). record t { numbers = fc; bc = bc }) grid
     ∙ sym (skip_entered u c.args.skip b current ∙ ap (λ d. changed_by_all (Over bo size f ∷ (if d then Unfilled bo size ∷ [] else [])) u) c.if-skip.false) in
-    record { cdfs = c.write_skip.ensures.moves.cdfs; kept = subst IsKept (sym e) (kept_after (Skip c.args.skip) fc t c.write_skip.ensures.moves.cdfs c.args.self.now.kept c.requires.rules) }
+    record { cdfs = c.write_skip.ensures.moves.cdfs; kept = subst IsKept (sym e) (kept_after (Skip c.args.skip) fc t c.write_skip.ensures.moves.cdfs c.args.self.now.kept c.requires.rules); switches = switched _ _ _ _ _ _ _ _ _ c.write_skip.ensures.moves c.args.self.now.switches }
 
 pub returns-else-skip : goal.returns-else-skip
 returns-else-skip g c =

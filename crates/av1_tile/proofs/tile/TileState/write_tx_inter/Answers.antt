@@ -10,9 +10,11 @@ use Rattle.av1_tile.proofs.Effects.{numbers_kept}
 use Rattle.av1_tile.proofs.FilterArms.{only_numbers}
 use Rattle.av1_tile.proofs.OfCurrent.{current_there, current_allowed, current_tree}
 use Rattle.av1_tile.proofs.Splitting.{split_blocks}
-use Rattle.av1_tile.proofs.StepLaws.{is_paired, kept_after}
+use Rattle.av1_tile.proofs.Ready.{is_paired}
+use Rattle.av1_tile.proofs.StepLaws.{kept_after}
 use Rattle.av1_tile.proofs.TransformArms.{err_of, tx_inter_entered}
 use Rattle.av1_tile.proofs.TransformSteps.{tx_inter_allowed}
+use Rattle.av1_tile.proofs.Switches.{switched}
 use Rattle.av1_tile.proofs.tile.TileState.write_tx_inter.Goals as goal
 
 pub unwrap-size-requires : goal.unwrap-size-requires
@@ -49,7 +51,7 @@ pub invariant_of-self : goal.invariant_of-self
 invariant_of-self g c =
     let t = tile_of c.args.self.now in
     let fc = c.write_split.new.cw.fc in
-    record { cdfs = c.write_split.ensures.moves.cdfs; kept = subst IsKept (sym (only_numbers t fc c.write_split.new.cw.bc c.in_err-write_split.ensures.refused)) (numbers_kept fc t c.args.self.now.kept) }
+    record { cdfs = c.write_split.ensures.moves.cdfs; kept = subst IsKept (sym (only_numbers t fc c.write_split.new.cw.bc c.in_err-write_split.ensures.refused)) (numbers_kept fc t c.args.self.now.kept); switches = switched _ _ _ _ _ _ _ _ _ c.write_split.ensures.moves c.args.self.now.switches }
 
 pub returns-in_err-write_split : goal.returns-in_err-write_split
 returns-in_err-write_split g c =
@@ -71,7 +73,7 @@ invariant_of-self-2 g c =
     let split = c.args.split in
     let current : t.current ≡ Some b = search rules in
     let e = tx_inter_entered t fc b split c.inter_tx_size.result c.write_split.new.cw.bc c.set_txsize.new.self current c.inter_tx_size.ensures c.in_ok-write_split.ensures.entered c.set_txsize.ensures in
-    record { cdfs = c.write_split.ensures.moves.cdfs; kept = subst IsKept (sym e) (kept_after (TxInter split) fc t c.write_split.ensures.moves.cdfs c.args.self.now.kept c.requires.rules) }
+    record { cdfs = c.write_split.ensures.moves.cdfs; kept = subst IsKept (sym e) (kept_after (TxInter split) fc t c.write_split.ensures.moves.cdfs c.args.self.now.kept c.requires.rules); switches = switched _ _ _ _ _ _ _ _ _ c.write_split.ensures.moves c.args.self.now.switches }
 
 pub returns : goal.returns
 returns g c =

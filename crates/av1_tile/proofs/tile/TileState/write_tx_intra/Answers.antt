@@ -9,9 +9,11 @@ use Rattle.av1_tile.proofs.Arms.{writes_whole, writes_front, block_within}
 use Rattle.av1_tile.proofs.Effects.{numbers_kept}
 use Rattle.av1_tile.proofs.FilterArms.{only_numbers}
 use Rattle.av1_tile.proofs.OfCurrent.{current_there, current_allowed, current_tree}
-use Rattle.av1_tile.proofs.StepLaws.{is_paired, kept_after}
+use Rattle.av1_tile.proofs.Ready.{is_paired}
+use Rattle.av1_tile.proofs.StepLaws.{kept_after}
 use Rattle.av1_tile.proofs.TransformArms.{err_of, tx_intra_entered}
 use Rattle.av1_tile.proofs.TransformSteps.{tx_intra_allowed}
+use Rattle.av1_tile.proofs.Switches.{switched}
 use Rattle.av1_tile.proofs.tile.TileState.write_tx_intra.Goals as goal
 
 pub unwrap-size-requires : goal.unwrap-size-requires
@@ -60,7 +62,7 @@ pub invariant_of-self : goal.invariant_of-self
 invariant_of-self g c =
     let t = tile_of c.args.self.now in
     let fc = c.write_tx_size_intra.new.self.fc in
-    record { cdfs = c.write_tx_size_intra.ensures.moves.cdfs; kept = subst IsKept (sym (only_numbers t fc c.write_tx_size_intra.new.self.bc c.write_tx_size_intra.ensures.rest)) (numbers_kept fc t c.args.self.now.kept) }
+    record { cdfs = c.write_tx_size_intra.ensures.moves.cdfs; kept = subst IsKept (sym (only_numbers t fc c.write_tx_size_intra.new.self.bc c.write_tx_size_intra.ensures.rest)) (numbers_kept fc t c.args.self.now.kept); switches = switched _ _ _ _ _ _ _ _ _ c.write_tx_size_intra.ensures.moves c.args.self.now.switches }
 
 pub returns-in_err-write_tx_size_intra : goal.returns-in_err-write_tx_size_intra
 returns-in_err-write_tx_size_intra g c =
@@ -82,7 +84,7 @@ invariant_of-self-2 g c =
     let tx = c.args.tx_size in
     let current : t.current ≡ Some b = search rules in
     let e = tx_intra_entered t fc b tx c.write_tx_size_intra.new.self.bc c.update_tx_size_context.new.self c.set_txsize.new.self current c.write_tx_size_intra.ensures.rest c.set_txsize.ensures c.update_tx_size_context.ensures in
-    record { cdfs = c.write_tx_size_intra.ensures.moves.cdfs; kept = subst IsKept (sym e) (kept_after (TxIntra tx) fc t c.write_tx_size_intra.ensures.moves.cdfs c.args.self.now.kept c.requires.rules) }
+    record { cdfs = c.write_tx_size_intra.ensures.moves.cdfs; kept = subst IsKept (sym e) (kept_after (TxIntra tx) fc t c.write_tx_size_intra.ensures.moves.cdfs c.args.self.now.kept c.requires.rules); switches = switched _ _ _ _ _ _ _ _ _ c.write_tx_size_intra.ensures.moves c.args.self.now.switches }
 
 pub returns : goal.returns
 returns g c =

@@ -1,22 +1,22 @@
-use Rattle.std.proofs.Common.{◌≡◌, Option, Some, None, Ok, Err, true, refl, sym, ap, subst, ◌∙◌, arith, rules}
+use Rattle.std.proofs.Common.{◌≡◌, Some, refl, sym, ap, subst, ◌∙◌, arith, rules}
 use Rattle.av1_blocks.specs.declared.block_context.BlockContext.{BlockContext}
-use Rattle.av1_geometry.specs.Rules.{first_broken}
 use Rattle.av1_geometry.specs.PredictionMode.{prediction_mode_number}
 use Rattle.av1_geometry.specs.declared.prediction_mode.PredictionMode.{PredictionMode}
-use Rattle.av1_model.specs.Comes.{standing, Writes as WritesAll, Begins}
-use Rattle.av1_cdf.specs.Distribution.{coded_by, learnt}
+use Rattle.av1_model.specs.Comes.{Writes as WritesAll, Begins}
 use Rattle.av1_syntax.specs.IntraModes.{uv_mode_element}
+use Rattle.av1_syntax.specs.Calls.{coded_in, learnt_in, stands}
 use Rattle.av1_tile.specs.declared.unit.TileStep.TheVariants.{UvMode}
-use Rattle.av1_tile.specs.IntraSteps.{mode_at, uv_mode_kind}
+use Rattle.av1_tile.specs.IntraSteps.{uv_mode_kind}
 use Rattle.av1_tile.specs.Kept.{IsKept}
 use Rattle.av1_tile.specs.State.{tile_of}
 use Rattle.av1_tile.specs.Step.{entered}
-use Rattle.av1_tile.specs.Tile.{Tile, with_numbers}
+use Rattle.av1_tile.specs.Tile.{with_numbers}
 use Rattle.av1_tile.proofs.Arms.{writes_whole, writes_front}
 use Rattle.av1_tile.proofs.OfCurrent.{current_there, current_allowed, current_tree, current_entered}
 use Rattle.av1_tile.proofs.Effects.{numbers_kept}
 use Rattle.av1_tile.proofs.IntraSteps.{luma_below, uv_mode_allowed}
 use Rattle.av1_tile.proofs.StepLaws.{kept_after}
+use Rattle.av1_tile.proofs.Switches.{switched}
 use Rattle.av1_tile.proofs.tile.TileState.write_uv_mode.Goals as goal
 
 pub unwrap-b-requires : goal.unwrap-b-requires
@@ -46,7 +46,7 @@ invariant_of-self g c =
     let t = tile_of c.args.self.now in
     let fc = c.write_intra_uv_mode.new.self.fc in
     let e : record t { numbers = fc; bc = c.write_intra_uv_mode.new.self.bc } ≡ with_numbers fc t = ap (λ (bc : BlockContext). record t { numbers = fc; bc = bc }) c.write_intra_uv_mode.ensures.rest in
-    record { cdfs = c.write_intra_uv_mode.ensures.moves.cdfs; kept = subst IsKept (sym e) (numbers_kept fc t c.args.self.now.kept) }
+    record { cdfs = c.write_intra_uv_mode.ensures.moves.cdfs; kept = subst IsKept (sym e) (numbers_kept fc t c.args.self.now.kept); switches = switched _ _ _ _ _ _ _ _ _ c.write_intra_uv_mode.ensures.moves c.args.self.now.switches }
 
 pub returns-in_err-write_intra_uv_mode : goal.returns-in_err-write_intra_uv_mode
 returns-in_err-write_intra_uv_mode g c =
@@ -58,7 +58,7 @@ returns-in_err-write_intra_uv_mode g c =
     let current : t.current ≡ Some b = search rules in
     let allowed = current_allowed UvMode kind t.current b m current c.requires.rules in
     let e : record t { numbers = fc; bc = c.write_intra_uv_mode.new.self.bc } ≡ with_numbers fc t = ap (λ (bc : BlockContext). record t { numbers = fc; bc = bc }) c.in_err-write_intra_uv_mode.ensures.rest in
-    let front = subst (λ (luma : PredictionMode). Begins coded_by (learnt true) (uv_mode_element luma b.1).tree m (standing (g.W.Known.position c.args.w.now) t.numbers) (standing (g.W.Known.position c.write_intra_uv_mode.new.w) fc)) c.mode_at-luma.ensures
+    let front = subst (λ (luma : PredictionMode). Begins coded_in learnt_in (uv_mode_element luma b.1).tree m (stands g.W.Known c.args.w.now c.args.self.now.cw) (stands g.W.Known c.write_intra_uv_mode.new.w c.write_intra_uv_mode.new.self)) c.mode_at-luma.ensures
     c.in_err-write_intra_uv_mode.ensures.wrote in
     writes_front g.W.Known c.from_residual.result c.in_err-write_intra_uv_mode.field-0.0 (search rules) (UvMode m) (kind b) m _ _ _ _ 13 (current_tree UvMode kind t.current b current) refl allowed
     front e (omega arith) c.in_err-write_intra_uv_mode.ensures.moves
@@ -73,7 +73,7 @@ invariant_of-self-2 g c =
     let current : t.current ≡ Some b = search rules in
     let e : record t { numbers = fc; bc = c.write_intra_uv_mode.new.self.bc; uv = Some m } ≡ entered (UvMode m) u =
     ap (λ (bc : BlockContext). record t { numbers = fc; bc = bc; uv = Some m }) c.write_intra_uv_mode.ensures.rest ∙ current_entered UvMode (uv_mode_kind u) u.current b current u m in
-    record { cdfs = c.write_intra_uv_mode.ensures.moves.cdfs; kept = subst IsKept (sym e) (kept_after (UvMode m) fc t c.write_intra_uv_mode.ensures.moves.cdfs c.args.self.now.kept c.requires.rules) }
+    record { cdfs = c.write_intra_uv_mode.ensures.moves.cdfs; kept = subst IsKept (sym e) (kept_after (UvMode m) fc t c.write_intra_uv_mode.ensures.moves.cdfs c.args.self.now.kept c.requires.rules); switches = switched _ _ _ _ _ _ _ _ _ c.write_intra_uv_mode.ensures.moves c.args.self.now.switches }
 
 pub returns : goal.returns
 returns g c =
@@ -87,7 +87,7 @@ returns g c =
     let allowed = current_allowed UvMode kind t.current b m current c.requires.rules in
     let e : record t { numbers = fc; bc = c.write_intra_uv_mode.new.self.bc; uv = Some m } ≡ entered (UvMode m) u =
     ap (λ (bc : BlockContext). record t { numbers = fc; bc = bc; uv = Some m }) c.in_ok-write_intra_uv_mode.ensures.rest ∙ current_entered UvMode (uv_mode_kind u) u.current b current u m in
-    let whole = subst (λ (luma : PredictionMode). WritesAll coded_by (learnt true) (uv_mode_element luma b.1).tree m (standing (g.W.Known.position c.args.w.now) t.numbers) (standing (g.W.Known.position c.write_intra_uv_mode.new.w) fc)) c.mode_at-luma.ensures
+    let whole = subst (λ (luma : PredictionMode). WritesAll coded_in learnt_in (uv_mode_element luma b.1).tree m (stands g.W.Known c.args.w.now c.args.self.now.cw) (stands g.W.Known c.write_intra_uv_mode.new.w c.write_intra_uv_mode.new.self)) c.mode_at-luma.ensures
     c.in_ok-write_intra_uv_mode.ensures.wrote in
     writes_whole g.W.Known _ tt refl (UvMode m) (kind b) m _ _ _ _ 13 (current_tree UvMode kind t.current b current) refl allowed
     whole e (omega arith) c.in_ok-write_intra_uv_mode.ensures.moves

@@ -1,0 +1,8 @@
+use Rattle.av1_geometry.specs.declared.prediction_mode.PredictionMode.TheVariants.{DC_PRED}
+use Rattle.av1_input.specs.Item.{inter_mode, prediction_rows, nothing}
+use Rattle.av1_input.specs.Rows.{closed}
+use Rattle.av1_input.proofs.Rows.{here, rest, ◌▸◌}
+use Rattle.av1_input.proofs.item.inter_mode.Goals as goal
+
+pub returns : goal.returns
+returns c = rest c.finish.result (here (closed inter_mode) prediction_rows (nothing DC_PRED) c.args.members ▸ c.required-answer.ensures) c.finish.ensures
