@@ -48,31 +48,30 @@ fn try_in_vain<W: Writer>(
     state: &mut TileState,
     w: &mut W,
     place: TileBlockOffset,
-    outer: &Item,
-    middle: &Item,
-    inner: &Item,
+    steps: (TileStep, TileStep, TileStep),
 ) -> Result<bool, OutOfMemory>
     ensures { IfOk result (λ came. IsTrue came → (tile_of state.new ≡ tile_of state.old) × (W.position w.new ≡ W.position w.old)) }
 {
     law_of_trials::<W>();
     let mut marks = Vec::new(alloc);
     let begin = Item::Begin(place);
+    let (outer, middle, inner) = steps;
     if !take(alloc, state, w, &mut marks, &begin)? {
         return Ok(false);
     }
-    if !take(alloc, state, w, &mut marks, outer)? {
-        return Ok(false);
-    }
-    if !take(alloc, state, w, &mut marks, &begin)? {
-        return Ok(false);
-    }
-    if !take(alloc, state, w, &mut marks, middle)? {
+    if !take(alloc, state, w, &mut marks, &Item::Step(outer))? {
         return Ok(false);
     }
     if !take(alloc, state, w, &mut marks, &begin)? {
         return Ok(false);
     }
-    if !take(alloc, state, w, &mut marks, inner)? {
+    if !take(alloc, state, w, &mut marks, &Item::Step(middle))? {
+        return Ok(false);
+    }
+    if !take(alloc, state, w, &mut marks, &begin)? {
+        return Ok(false);
+    }
+    if !take(alloc, state, w, &mut marks, &Item::Step(inner))? {
         return Ok(false);
     }
     if !take(alloc, state, w, &mut marks, &Item::Abandon)? {
@@ -180,16 +179,17 @@ fn three_trials_leave_no_trace(rt: HostRuntime) -> Result<(), Fail> {
     let mut state = first_state(alloc, &unit)?;
     let mut w = WriterEncoder::new(alloc);
     let place = TileBlockOffset(BlockOffset { x: 0, y: 0 });
-    let block = Item::Step(TileStep::Block {
+    let block = TileStep::Block {
         x: 0,
         y: 0,
         size: BlockSize::BLOCK_8X8,
-    });
-    let mode = Item::Step(TileStep::IntraModeKf {
+    };
+    let mode = TileStep::IntraModeKf {
         answer: PredictionMode::SMOOTH_PRED,
-    });
-    let skip = Item::Step(TileStep::Skip { answer: true });
-    assert!(rt; try_in_vain(alloc, &mut state, &mut w, place, &block, &mode, &skip)?);
+    };
+    let skip = TileStep::Skip { answer: true };
+    let came = try_in_vain(alloc, &mut state, &mut w, place, (block, mode, skip))?;
+    assert!(rt; came);
     assert_eq!(rt; w.tell(), 1);
     assert_eq!(rt; state.current.is_none(), true);
     assert_eq!(rt; w.done()?.as_slice(), [0x80].as_slice());

@@ -5,9 +5,9 @@
 //! - `rows`: worked units, with their bytes, reports and refusals
 #![tactic(auto)]
 
-pub mod reader;
 #[cfg(test)]
 mod items;
+pub mod reader;
 #[cfg(test)]
 mod rows;
 #[cfg(test)]

@@ -166,7 +166,7 @@ fn a_block_without_a_chroma_size_is_refused(rt: HostRuntime) -> Result<(), Fail>
 #[test]
 fn a_step_of_each_of_the_26_kinds_is_coded(rt: HostRuntime) -> Result<(), Fail> {
     let alloc = rt.alloc();
-    let mut kinds = 0;
+    let mut kinds: u32 = 0;
     for row in EVERY_KIND.split("\n\n") {
         let (kind, unit) = row.split_once('\n').unwrap_or(("", ""));
         let (input, told) = unit.split_once('\n').unwrap_or(("", ""));
@@ -174,7 +174,7 @@ fn a_step_of_each_of_the_26_kinds_is_coded(rt: HostRuntime) -> Result<(), Fail> 
         assert!(rt; input.contains(step.as_str()), "{kind}");
         assert!(rt; told.starts_with("0\n"), "{kind}");
         is_answered(&rt, alloc, unit)?;
-        kinds += 1;
+        kinds = kinds.wrapping_add(1);
     }
     assert_eq!(rt; kinds, 26);
     Ok(())
