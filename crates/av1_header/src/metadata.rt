@@ -1,8 +1,10 @@
 // OBU headers and metadata.
-ghost use Rattle.std.specs.Prelude.{◌≡◌, ◌+◌, ◌-◌, ◌^◌, ◌<◌, ◌≤◌, ◌==◌, length, slice_index_or, unwrap_or, IsSome, if◌then◌else◌};
+ghost use Rattle.std.specs.Prelude.{◌≡◌, ◌+◌, ◌-◌, ◌^◌, ◌<◌, ◌≤◌};
+ghost use Rattle.std.specs.Prelude.{◌==◌, length, slice_index_or, unwrap_or, IsSome, if◌then◌else◌};
 ghost use Rattle.av1_frame.specs.Obu.{obu_type_number, obu_meta_type_number};
 ghost use Rattle.av1_header.specs.Rows.{Wrote, each};
-ghost use Rattle.av1_header.specs.Metadata.{obu_header, content_light, primary, primaries, mastering_display, sequence_metadata, t35_metadata, t35_front, message_bytes, payload_byte, no_light, no_display, point};
+ghost use Rattle.av1_header.specs.Metadata.{obu_header, content_light, primary, primaries, mastering_display, sequence_metadata};
+ghost use Rattle.av1_header.specs.Metadata.{t35_metadata, t35_front, message_bytes, payload_byte, no_light, no_display, point};
 
 use crate::rows::{fixed, leb128, number_or};
 use av1_bits::BitWriter;

@@ -3,7 +3,8 @@ ghost use Rattle.std.specs.Prelude.{◌≡◌, ◌+◌, ◌-◌, ◌<◌, ◌≤
 ghost use Rattle.std.specs.Int.{div_ceil};
 ghost use Rattle.av1_frame.specs.Tiling.{is_uniform};
 ghost use Rattle.av1_header.specs.Rows.{Wrote, WroteNumber, ns};
-ghost use Rattle.av1_header.specs.Tiles.{TilingFits, HasSmallLogs, TilesFit, tiles_with, logs_of, increments, even_tiles, spans, said_tiles, tile_logs, tile_info};
+ghost use Rattle.av1_header.specs.Tiles.{TilingFits, HasSmallLogs, TilesFit, tiles_with, logs_of};
+ghost use Rattle.av1_header.specs.Tiles.{increments, even_tiles, spans, said_tiles, tile_logs, tile_info};
 
 use crate::rows::{flag_or, number_or, quniform};
 use av1_bits::BitWriter;

@@ -1,6 +1,7 @@
 // A sequence from a JSON value.
 ghost use Rattle.std.specs.Prelude.{◌≡◌};
-ghost use Rattle.av1_input.specs.Sequence.{rational, colours, colours_of, light, light_of, point, point_of, mastering, sequence, header_rows, tool_rows, force_rows, colour_rows};
+ghost use Rattle.av1_input.specs.Sequence.{rational, colours, colours_of, light, light_of, point};
+ghost use Rattle.av1_input.specs.Sequence.{point_of, mastering, sequence, header_rows, tool_rows, force_rows, colour_rows};
 ghost use Rattle.av1_input.specs.Taking.{Pours};
 
 use crate::error::ShapeError;
