@@ -22,11 +22,11 @@ use Rattle.av1_geometry.specs.TxType.{tx_type_of}
 use Rattle.av1_geometry.specs.declared.tx_type.TxType.{TxType}
 use Rattle.av1_geometry.specs.declared.tx_type.TxType.TheVariants.{DCT_DCT}
 use Rattle.av1_syntax.specs.declared.restoration.RestorationFilter.{RestorationFilter}
-use Rattle.av1_tile.specs.declared.unit.Item.{Item}
-use Rattle.av1_tile.specs.declared.unit.Item.TheVariants.{Step, Begin, Keep, Abandon}
-use Rattle.av1_tile.specs.declared.unit.TileStep.TheVariants.{RowStart, Block, Partition, Skip, Segment, Cdef, DeltaLf, IntraModeKf, IntraMode}
-use Rattle.av1_tile.specs.declared.unit.TileStep.TheVariants.{UvMode, AngleDelta, CflAlphas, FilterIntra, Palette, TxNote, TxIntra, TxInter, Coeffs}
-use Rattle.av1_tile.specs.declared.unit.TileStep.TheVariants.{IsInter, RefFrames, MvRefs, InterMode, CompoundMode, Drl, Mv, Lrf}
+use Rattle.av1_step.specs.declared.unit.Item.{Item}
+use Rattle.av1_step.specs.declared.unit.Item.TheVariants.{Step, Begin, Keep, Abandon}
+use Rattle.av1_step.specs.declared.step.TileStep.TheVariants.{RowStart, Block, Partition, Skip, Segment, Cdef, DeltaLf, IntraModeKf, IntraMode}
+use Rattle.av1_step.specs.declared.step.TileStep.TheVariants.{UvMode, AngleDelta, CflAlphas, FilterIntra, Palette, TxNote, TxIntra, TxInter, Coeffs}
+use Rattle.av1_step.specs.declared.step.TileStep.TheVariants.{IsInter, RefFrames, MvRefs, InterMode, CompoundMode, Drl, Mv, Lrf}
 use Rattle.av1_input.specs.Filter.{filter}
 use Rattle.av1_input.specs.Fitted.{Fitted, Unfit, name_step}
 use Rattle.av1_input.specs.Kinds.{Kind, choice, exactly, list, signed, text, truth, whole}

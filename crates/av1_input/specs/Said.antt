@@ -3,8 +3,8 @@ use Rattle.std.specs.Prelude.{List, Bool, Option}
 use Rattle.av1_frame.specs.declared.metadata.Metadata.{Metadata}
 use Rattle.av1_frame.specs.declared.reference.RefState.{RefState}
 use Rattle.av1_frame.specs.declared.sequence.Sequence.{Sequence}
-use Rattle.av1_tile.specs.declared.unit.Item.{Item}
-use Rattle.av1_tile.specs.declared.unit.Via.{Via}
+use Rattle.av1_step.specs.declared.unit.Item.{Item}
+use Rattle.av1_tile.specs.declared.coding.Via.{Via}
 use Rattle.av1_input.specs.declared.frame.Frame.{Frame}
 use Rattle.av1_input.specs.declared.scans.GivenScans.{GivenScans}
 use Rattle.av1_input.specs.declared.tables.GivenTables.{GivenTables}

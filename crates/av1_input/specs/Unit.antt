@@ -4,11 +4,11 @@ use Rattle.std.specs.Str.{bytes_eq, is_utf8}
 use Rattle.serde_json.specs.Data.{Data}
 use Rattle.serde_json.specs.Read.{read}
 use Rattle.av1_frame.specs.Defaults.{still_sequence}
-use Rattle.av1_tile.specs.Given.{Given, given_of}
-use Rattle.av1_tile.specs.declared.unit.Item.{Item}
-use Rattle.av1_tile.specs.declared.unit.Unit.{Unit}
-use Rattle.av1_tile.specs.declared.unit.Via.{Via}
-use Rattle.av1_tile.specs.declared.unit.Via.TheVariants.{Direct, Recorded}
+use Rattle.av1_step.specs.Given.{Given, given_of}
+use Rattle.av1_step.specs.declared.unit.Item.{Item}
+use Rattle.av1_step.specs.declared.unit.Unit.{Unit}
+use Rattle.av1_tile.specs.declared.coding.Via.{Via}
+use Rattle.av1_tile.specs.declared.coding.Via.TheVariants.{Direct, Recorded}
 use Rattle.av1_input.specs.Fitted.{Fitted, Fits, ◌>>=◌}
 use Rattle.av1_input.specs.Item.{script}
 use Rattle.av1_input.specs.Kinds.{Kind, list, truth, word}

@@ -10,9 +10,9 @@ use Rattle.av1_geometry.specs.declared.prediction_mode.PredictionMode.TheVariant
 use Rattle.av1_geometry.specs.declared.tx_size.TxSize.{TxSize}
 use Rattle.av1_geometry.specs.declared.tx_type.TxType.{TxType}
 use Rattle.av1_geometry.specs.declared.tx_type.TxType.TheVariants.{DCT_DCT}
-use Rattle.av1_tile.specs.declared.unit.TileStep.{TileStep}
-use Rattle.av1_tile.specs.declared.unit.TileStep.TheVariants.{Block, Skip, IntraModeKf, UvMode, AngleDelta, TxNote, Coeffs}
-use Rattle.av1_tile.specs.AngleSteps.{is_directional}
+use Rattle.av1_step.specs.declared.step.TileStep.{TileStep}
+use Rattle.av1_step.specs.declared.step.TileStep.TheVariants.{Block, Skip, IntraModeKf, UvMode, AngleDelta, TxNote, Coeffs}
+use Rattle.av1_step.specs.AngleSteps.{is_directional}
 use Rattle.av1_make.specs.Draws.{Making, draw, draw_all, nothing, step, ◌>>◌}
 
 -- one of the 13 intra modes

@@ -1,8 +1,8 @@
 -- Numbers that are drawn one after another, and items that they decide.
 use Rattle.std.specs.Prelude.{◌≡◌, ℕ, ◌+◌, ◌*◌, ◌/◌, ◌%◌, ◌^◌, zero, suc, List, [], ◌∷◌, ◌++◌}
-use Rattle.av1_tile.specs.declared.unit.Item.{Item}
-use Rattle.av1_tile.specs.declared.unit.Item.TheVariants.{Step}
-use Rattle.av1_tile.specs.declared.unit.TileStep.{TileStep}
+use Rattle.av1_step.specs.declared.unit.Item.{Item}
+use Rattle.av1_step.specs.declared.unit.Item.TheVariants.{Step}
+use Rattle.av1_step.specs.declared.step.TileStep.{TileStep}
 use Rattle.av1_make.specs.declared.draws.Maker.{Maker}
 
 -- the state of the draws after one more

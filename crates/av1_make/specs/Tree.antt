@@ -3,9 +3,9 @@ use Rattle.std.specs.Prelude.{◌≡◌, ℕ, Bool, false, zero, suc, ◌+◌, �
 use Rattle.av1_geometry.specs.declared.block_size.BlockSize.{BlockSize}
 use Rattle.av1_geometry.specs.declared.block_size.BlockSize.TheVariants.{BLOCK_8X8, BLOCK_16X16, BLOCK_32X32, BLOCK_64X64}
 use Rattle.av1_geometry.specs.declared.partition_type.PartitionType.TheVariants.{PARTITION_NONE, PARTITION_SPLIT}
-use Rattle.av1_tile.specs.declared.unit.Item.{Item}
-use Rattle.av1_tile.specs.declared.unit.Item.TheVariants.{Begin, Keep, Abandon}
-use Rattle.av1_tile.specs.declared.unit.TileStep.TheVariants.{Partition, RowStart}
+use Rattle.av1_step.specs.declared.unit.Item.{Item}
+use Rattle.av1_step.specs.declared.unit.Item.TheVariants.{Begin, Keep, Abandon}
+use Rattle.av1_step.specs.declared.step.TileStep.TheVariants.{Partition, RowStart}
 use Rattle.av1_make.specs.declared.draws.Maker.{Maker}
 use Rattle.av1_make.specs.declared.tree.Area.{Area}
 use Rattle.av1_make.specs.Blocks.{block}

@@ -5,8 +5,8 @@ use Rattle.av1_cdf.specs.Tables.{uniform_sets}
 use Rattle.av1_coef.specs.Diagonal.{diagonal_scans}
 use Rattle.av1_frame.specs.Defaults.{key_frame, plain_state, still_sequence}
 use Rattle.av1_frame.specs.HeaderRules.{blocks}
-use Rattle.av1_tile.specs.Given.{Given}
-use Rattle.av1_tile.specs.declared.unit.Item.{Item}
+use Rattle.av1_step.specs.Given.{Given}
+use Rattle.av1_step.specs.declared.unit.Item.{Item}
 use Rattle.av1_make.specs.declared.tree.Area.{Area}
 use Rattle.av1_make.specs.Tree.{superblocks}
 

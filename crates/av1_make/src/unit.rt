@@ -1,6 +1,6 @@
 // The unit that a number makes.
 ghost use Rattle.std.specs.Prelude.{◌≡◌, ◌+◌, ◌*◌, ◌<◌, ◌≤◌, ◌^◌, [], ◌∷◌, IfOk};
-ghost use Rattle.av1_tile.specs.Given.{given_of};
+ghost use Rattle.av1_step.specs.Given.{given_of};
 ghost use Rattle.av1_make.specs.Unit.{made_given, made_height, made_script, made_width};
 
 use crate::draws::Maker;

@@ -4,7 +4,7 @@ use Rattle.std.specs.Prelude.{IfErr}
 use Rattle.std.specs.Result.{IsErrAnd}
 use Rattle.av1_tile.specs.declared.error.UnitError.{UnitError}
 use Rattle.av1_tile.specs.declared.error.UnitError.TheVariants.{Refused, BadScript, TooLong, SinkFault, OutOfMemory}
-use Rattle.av1_tile.specs.declared.unit.Via.{Via}
+use Rattle.av1_tile.specs.declared.coding.Via.{Via}
 use Rattle.av1_unit.specs.Findings.{first_refusal}
 use Rattle.av1_unit.specs.Plain.{PlainUnit}
 use Rattle.av1_unit.proofs.Written.{no_sink}

@@ -5,7 +5,7 @@ use Rattle.av1_geometry.specs.declared.error.Rule.{Rule}
 use Rattle.av1_tile.specs.declared.error.Place.{Place}
 use Rattle.av1_tile.specs.declared.error.UnitError.{UnitError}
 use Rattle.av1_tile.specs.declared.error.UnitError.TheVariants as errors
-use Rattle.av1_tile.specs.declared.unit.Via.{Via}
+use Rattle.av1_tile.specs.declared.coding.Via.{Via}
 use Rattle.av1_unit.specs.Findings.{first_refusal}
 use Rattle.av1_unit.specs.Headline.{IsWritten}
 use Rattle.av1_unit.specs.Plain.{PlainUnit}

@@ -3,9 +3,9 @@ use Rattle.std.specs.Prelude.{ℕ, List, [], ◌∷◌, Option, Some, None}
 use Rattle.av1_input.specs.Fitted.{Fitted, Fits as FitsTable, Unfit as NotFits}
 use Rattle.av1_input.specs.Unit.{Input, shape as input_shape}
 use Rattle.av1_make.specs.Unit.{made_given, made_script}
-use Rattle.av1_tile.specs.declared.unit.Unit as declared
-use Rattle.av1_tile.specs.declared.unit.Via.{Via}
-use Rattle.av1_tile.specs.declared.unit.Via.TheVariants.{Direct}
+use Rattle.av1_step.specs.declared.unit.Unit as declared
+use Rattle.av1_tile.specs.declared.coding.Via.{Via}
+use Rattle.av1_tile.specs.declared.coding.Via.TheVariants.{Direct}
 use Rattle.av1_unit.specs.Plain.{PlainUnit, plain}
 
 -- what a text is: no JSON, JSON that has at this path something that is no part of a unit, or a unit

@@ -2,7 +2,7 @@
 ghost use Rattle.std.specs.Prelude.{◌≡◌, IsTrue, IfOk};
 ghost use Rattle.av1_tile.specs.Items.{Stage, TakesOne};
 ghost use Rattle.av1_tile.specs.Marks.{AreMarks};
-ghost use Rattle.av1_tile.specs.State.{tile_of};
+ghost use Rattle.av1_step.specs.State.{tile_of};
 
 use crate::rows::first_state;
 use av1_ec::{Writer, WriterEncoder};
@@ -10,7 +10,7 @@ use av1_geometry::{BlockOffset, BlockSize, OutOfMemory, PredictionMode, TileBloc
 use av1_make::make_unit;
 use av1_unit::{
     Item, Report, TileReport, TileState, TileStep, TrialMark, Unit, Via, can_come, law_of_steps,
-    law_of_trials, unit_bytes,
+    law_of_trials, unit_bytes, write_item,
 };
 use std::alloc::Global;
 use std::process::Abort;
@@ -37,7 +37,7 @@ fn take<W: Writer>(
     if !can_come(state, w.tell(), marks, item) {
         return Ok(false);
     }
-    state.write_item(alloc, w, marks, item)?;
+    write_item(alloc, state, w, marks, item)?;
     Ok(true)
 }
 
@@ -100,7 +100,7 @@ fn code_items<W: Writer>(
         if !can_come(state, w.tell(), &marks, item) {
             return Ok(None);
         }
-        if let Some(eighths) = state.write_item(alloc, w, &mut marks, item)? {
+        if let Some(eighths) = write_item(alloc, state, w, &mut marks, item)? {
             costs.push(eighths)?;
         }
     }

@@ -1,6 +1,6 @@
 // Worked units on an 8x8 frame, and larger ones.
 ghost use Rattle.std.specs.Prelude.{◌≡◌};
-ghost use Rattle.av1_tile.specs.Given.{broken_scan_rule};
+ghost use Rattle.av1_step.specs.Given.{broken_scan_rule};
 
 use crate::reader::PlainReader;
 use av1_bits::MemSink;

@@ -8,11 +8,11 @@ use Rattle.av1_model.proofs.Positions.{range_advanced_all, shift_advanced_all, f
 use Rattle.av1_ec.specs.Rate.{tell_at, tell_frac_at, new_recorder}
 use Rattle.av1_ec.specs.Recorder.{tokens_at}
 use Rattle.av1_ec.proofs.OneRate.{tokens_recorded}
-use Rattle.av1_tile.specs.declared.unit.TileStep.{TileStep}
-use Rattle.av1_tile.specs.Tile.{Tile}
-use Rattle.av1_tile.specs.Script.{after_step, tokens_of}
+use Rattle.av1_step.specs.declared.step.TileStep.{TileStep}
+use Rattle.av1_step.specs.Tile.{Tile}
+use Rattle.av1_step.specs.Script.{after_step, tokens_of}
 use Rattle.av1_tile.specs.Coder.{IsNew, HasCoded}
-use Rattle.av1_tile.proofs.ReadingBack.{encoder_after}
+use Rattle.av1_step.proofs.ReadingBack.{encoder_after}
 
 pub coded_none : (start position : Position) → IsNew start → position ≡ start → HasCoded start position whole
 coded_none start position new is = record { new = new; tokens = []; stored = is; encoded = refl }

@@ -5,14 +5,14 @@ use Rattle.std.proofs.Math.ListN.{length-take}
 use Rattle.av1_model.specs.Eighths.{eighths}
 use Rattle.av1_model.specs.Position.{Position}
 use Rattle.av1_ec.specs.declared.known.Known.{Ghosts}
-use Rattle.av1_tile.specs.declared.trial.TrialMark.{TrialMark}
+use Rattle.av1_step.specs.declared.trial.TrialMark.{TrialMark}
 use Rattle.av1_tile.specs.declared.error.UnitError.{UnitError}
 use Rattle.av1_tile.specs.declared.error.UnitError.TheVariants.{BadScript}
 use Rattle.av1_tile.specs.declared.report.TrialCost.{TrialCost}
-use Rattle.av1_tile.specs.declared.tile.TileState.{TileState}
-use Rattle.av1_tile.specs.declared.unit.Item.{Item}
-use Rattle.av1_tile.specs.State.{tile_of}
-use Rattle.av1_tile.specs.Tile.{Tile}
+use Rattle.av1_step.specs.declared.tile.TileState.{TileState}
+use Rattle.av1_step.specs.declared.unit.Item.{Item}
+use Rattle.av1_step.specs.State.{tile_of}
+use Rattle.av1_step.specs.Tile.{Tile}
 use Rattle.av1_tile.specs.Trials.{Trial, Progress, moved, moved_all, first_wrong, no_trial}
 use Rattle.av1_tile.proofs.Surviving.{nothing_wrong}
 use Rattle.av1_tile.specs.Coder.{all_costs, StandsAt}

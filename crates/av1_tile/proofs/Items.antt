@@ -22,23 +22,24 @@ use Rattle.av1_model.specs.Syntax.{Syntax}
 use Rattle.av1_model.specs.Syntax.Syntax.{Bad, Done, Ask}
 use Rattle.av1_model.proofs.ComesLaws.{stored_is}
 use Rattle.av1_model.proofs.Symbols.{token_valid}
-use Rattle.av1_tile.specs.declared.tile.TileState.{TileState}
-use Rattle.av1_tile.specs.declared.trial.TrialMark.{TrialMark}
-use Rattle.av1_tile.specs.declared.unit.Item.TheVariants.{Step}
-use Rattle.av1_tile.specs.declared.unit.TileStep.{TileStep}
-use Rattle.av1_tile.specs.Given.{Given}
+use Rattle.av1_step.specs.declared.tile.TileState.{TileState}
+use Rattle.av1_step.specs.declared.trial.TrialMark.{TrialMark}
+use Rattle.av1_step.specs.declared.unit.Item.TheVariants.{Step}
+use Rattle.av1_step.specs.declared.step.TileStep.{TileStep}
+use Rattle.av1_step.specs.Given.{Given}
 use Rattle.av1_tile.specs.Items.{IsNearLast, Steps}
-use Rattle.av1_tile.specs.Kept.{IsKept}
-use Rattle.av1_tile.specs.Marks.{back_to, IsOfTile, IsMarkOf, WentBack, IsBefore, CanGoBack, AreMarks, StandsStill, AllStandStill}
-use Rattle.av1_tile.specs.Place.{candidates_in}
-use Rattle.av1_tile.specs.State.{tile_of, log_of}
-use Rattle.av1_tile.specs.Step.{effects_of, entered, is_untried, question_of, syntax_of}
-use Rattle.av1_tile.specs.Tile.{Tile, with_numbers}
+use Rattle.av1_step.specs.Kept.{IsKept}
+use Rattle.av1_step.specs.Mark.{back_to, IsOfTile, IsMarkOf, WentBack}
+use Rattle.av1_tile.specs.Marks.{IsBefore, CanGoBack, AreMarks, StandsStill, AllStandStill}
+use Rattle.av1_step.specs.Place.{candidates_in}
+use Rattle.av1_step.specs.State.{tile_of, log_of}
+use Rattle.av1_step.specs.Step.{effects_of, entered, is_untried, question_of, syntax_of}
+use Rattle.av1_step.specs.Tile.{Tile, with_numbers}
 use Rattle.av1_tile.specs.Trials.{place_of, same_superblock}
 use Rattle.av1_tile.proofs.AllBack.{back_again}
-use Rattle.av1_tile.proofs.Effects.{all_hidden, all_same}
+use Rattle.av1_step.proofs.Effects.{all_hidden, all_same}
 use Rattle.av1_tile.proofs.Marks.{none_last, none_or_last, same_of, same_back, same_trans, AllBefore, before_with, marks_split, marks_joined, marks_carried, mark_carried}
-use Rattle.av1_tile.proofs.StepLaws.{IsAllowed, step_fit, step_at, tried_still}
+use Rattle.av1_step.proofs.StepLaws.{IsAllowed, step_fit, step_at, tried_still}
 
 -- the tokens of a path are valid
 tokens_valid : {A : Type 0} (learns : List ℕ → Distribution → ℕ → List ℕ) (t : Syntax Distribution A) (ss : List ℕ) (c : List ℕ) → Fits coded_by learns t ss c → All IsToken (tokens_along coded_by learns t ss c)

@@ -11,14 +11,15 @@ use Rattle.av1_geometry.specs.declared.block_offset.BlockOffset.{BlockOffset}
 use Rattle.av1_model.specs.Reading.{Coding}
 use Rattle.av1_model.specs.Position.{Position}
 use Rattle.av1_tile.specs.declared.report.TrialCost.{TrialCost}
-use Rattle.av1_tile.specs.declared.tile.TileState.{TileState}
-use Rattle.av1_tile.specs.declared.trial.TrialMark.{TrialMark}
-use Rattle.av1_tile.specs.Kept.{IsKept}
-use Rattle.av1_tile.specs.State.{tile_of, log_of}
-use Rattle.av1_tile.specs.Tile.{Tile}
+use Rattle.av1_step.specs.declared.tile.TileState.{TileState}
+use Rattle.av1_step.specs.declared.trial.TrialMark.{TrialMark}
+use Rattle.av1_step.specs.Kept.{IsKept}
+use Rattle.av1_step.specs.State.{tile_of, log_of}
+use Rattle.av1_step.specs.Tile.{Tile}
 use Rattle.av1_tile.specs.Trials.{Trial, with_costs, same_superblock}
 use Rattle.av1_tile.specs.Coder.{HasCoded, all_costs, begun_of, unknown_cost, MarkIs, MarksAre}
-use Rattle.av1_tile.specs.Marks.{back_to, IsOfTile, IsBefore, IsBeforeAll, CanGoBack, AreMarks, StandsStill, AllStandStill}
+use Rattle.av1_step.specs.Mark.{back_to, IsOfTile}
+use Rattle.av1_tile.specs.Marks.{IsBefore, IsBeforeAll, CanGoBack, AreMarks, StandsStill, AllStandStill}
 
 -- costs that join those of the innermost trial, or of the script, come last
 pub all_costs-with : (at : Coding Tile) (more : List TrialCost) (ts : List Trial) (costs : List TrialCost) → let p = with_costs more at ts costs in all_costs p.trials p.costs ≡ all_costs ts costs ++ more

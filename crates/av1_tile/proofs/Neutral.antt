@@ -5,16 +5,17 @@ use Rattle.std.proofs.lemmas.List.{length_push}
 use Rattle.av1_ec.specs.declared.known.Known.{Ghosts}
 use Rattle.av1_geometry.specs.declared.block_offset.TileBlockOffset.{TileBlockOffset}
 use Rattle.av1_model.specs.Position.{Position}
-use Rattle.av1_tile.specs.declared.tile.TileState.{TileState}
-use Rattle.av1_tile.specs.declared.trial.TrialMark.{TrialMark}
-use Rattle.av1_tile.specs.declared.unit.Item.{Item}
-use Rattle.av1_tile.specs.declared.unit.Item.TheVariants.{Step, Begin, Keep, Abandon}
+use Rattle.av1_step.specs.declared.tile.TileState.{TileState}
+use Rattle.av1_step.specs.declared.trial.TrialMark.{TrialMark}
+use Rattle.av1_step.specs.declared.unit.Item.{Item}
+use Rattle.av1_step.specs.declared.unit.Item.TheVariants.{Step, Begin, Keep, Abandon}
 use Rattle.av1_tile.specs.Items.{Ends, Stage, TakesAll, ends_its_own}
-use Rattle.av1_tile.specs.Marks.{back_to, StandsStill, AllStandStill}
-use Rattle.av1_tile.specs.State.{tile_of, log_of}
-use Rattle.av1_tile.specs.Tile.{Tile}
+use Rattle.av1_step.specs.Mark.{back_to}
+use Rattle.av1_tile.specs.Marks.{StandsStill, AllStandStill}
+use Rattle.av1_step.specs.State.{tile_of, log_of}
+use Rattle.av1_step.specs.Tile.{Tile}
 use Rattle.av1_tile.proofs.Marks.{last_one, none_or_last}
-use Rattle.av1_tile.proofs.StepLaws.{is_same}
+use Rattle.av1_step.proofs.StepLaws.{is_same}
 
 not_none : (n : ℕ) → (suc n == 0) ≡ true → ⊥
 not_none n h = let e : suc n ≡ 0 = is_same (suc n) 0 h in omega (arith, e)

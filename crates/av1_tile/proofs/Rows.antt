@@ -6,9 +6,9 @@ use Rattle.av1_geometry.specs.declared.frame_type.ReferenceMode.TheVariants.{SEL
 use Rattle.av1_geometry.specs.declared.ref_type.RefType.TheVariants.{LAST_FRAME, BWDREF_FRAME, NONE_FRAME}
 use Rattle.av1_geometry.specs.declared.tx_size.TxSize.TheVariants.{TX_4X4, TX_8X8}
 use Rattle.av1_geometry.specs.declared.prediction_mode.PredictionMode.TheVariants.{NEARESTMV, NEAR0MV, NEAR2MV, NEWMV, NEAR_NEAR1MV, NEAR_NEAR2MV, NEAREST_NEWMV, NEW_NEARESTMV, NEAR_NEW0MV, NEAR_NEW2MV, NEW_NEAR0MV, NEW_NEAR2MV, NEW_NEWMV}
-use Rattle.av1_tile.specs.declared.unit.Item.{Item}
-use Rattle.av1_tile.specs.declared.unit.Item.TheVariants.{Step, Begin, Keep, Abandon}
-use Rattle.av1_tile.specs.declared.unit.TileStep.TheVariants.{Block, Skip, Lrf, Segment, DeltaLf, AngleDelta, CflAlphas, TxNote, TxIntra, TxInter, IsInter, RefFrames, InterMode}
+use Rattle.av1_step.specs.declared.unit.Item.{Item}
+use Rattle.av1_step.specs.declared.unit.Item.TheVariants.{Step, Begin, Keep, Abandon}
+use Rattle.av1_step.specs.declared.step.TileStep.TheVariants.{Block, Skip, Lrf, Segment, DeltaLf, AngleDelta, CflAlphas, TxNote, TxIntra, TxInter, IsInter, RefFrames, InterMode}
 use Rattle.av1_tile.specs.declared.error.UnitError.TheVariants.{Refused, BadScript}
 use Rattle.av1_tile.specs.declared.error.Place.TheVariants.{Item as ItemPlace}
 use Rattle.av1_tile.specs.declared.error.UnitError.{UnitError}
@@ -25,13 +25,13 @@ use Rattle.av1_frame.specs.Defaults.{key_frame, plain_state, still_sequence, unr
 use Rattle.av1_frame.specs.Tiling.{tiling}
 use Rattle.av1_geometry.specs.declared.chroma_sampling.ChromaSampling.TheVariants.{Cs400}
 use Rattle.av1_syntax.specs.declared.restoration.RestorationFilter.TheVariants.{None as Unfiltered, Sgrproj}
-use Rattle.av1_tile.specs.Given.{Given}
-use Rattle.av1_tile.specs.ModeSteps.{first_pick, may_pick_after, variant}
+use Rattle.av1_step.specs.Given.{Given}
+use Rattle.av1_step.specs.ModeSteps.{first_pick, may_pick_after, variant}
 use Rattle.av1_model.specs.Reading.{Coding}
-use Rattle.av1_tile.specs.Tile.{Tile, fresh, has_chroma_size}
+use Rattle.av1_step.specs.Tile.{Tile, fresh, has_chroma_size}
 use Rattle.av1_tile.specs.TileBytes.{started}
-use Rattle.av1_tile.specs.Step.{question_of}
-use Rattle.av1_tile.specs.Script.{after_all, read_steps}
+use Rattle.av1_step.specs.Step.{question_of}
+use Rattle.av1_step.specs.Script.{after_all, read_steps}
 use Rattle.av1_tile.specs.Trials.{surviving, moved_all, first_wrong}
 
 -- so much of a context as the slots of the skip flag need, where both of its values are as likely

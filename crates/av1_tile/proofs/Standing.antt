@@ -13,29 +13,30 @@ use Rattle.av1_model.specs.Interval.{bits}
 use Rattle.av1_model.specs.Position.{Position, advance_all}
 use Rattle.av1_model.specs.Reading.{Coding}
 use Rattle.av1_model.proofs.Costs.{log_below}
-use Rattle.av1_tile.specs.declared.error.StepFault.{StepFault}
-use Rattle.av1_tile.specs.declared.error.StepFault.TheVariants.{Broken}
+use Rattle.av1_step.specs.declared.error.StepFault.{StepFault}
+use Rattle.av1_step.specs.declared.error.StepFault.TheVariants.{Broken}
 use Rattle.av1_tile.specs.declared.error.UnitError.TheVariants.{BadScript}
 use Rattle.av1_tile.specs.declared.report.TrialCost.{TrialCost}
-use Rattle.av1_tile.specs.declared.tile.TileState.{TileState}
-use Rattle.av1_tile.specs.declared.trial.TrialMark.{TrialMark}
-use Rattle.av1_tile.specs.declared.unit.Item.{Item}
-use Rattle.av1_tile.specs.declared.unit.Item.TheVariants.{Step, Begin, Keep, Abandon}
-use Rattle.av1_tile.specs.declared.unit.TileStep.{TileStep}
+use Rattle.av1_step.specs.declared.tile.TileState.{TileState}
+use Rattle.av1_step.specs.declared.trial.TrialMark.{TrialMark}
+use Rattle.av1_step.specs.declared.unit.Item.{Item}
+use Rattle.av1_step.specs.declared.unit.Item.TheVariants.{Step, Begin, Keep, Abandon}
+use Rattle.av1_step.specs.declared.step.TileStep.{TileStep}
 use Rattle.av1_tile.specs.Coder.{HasCoded, all_costs, begun_of, unknown_cost, MarkIs, MarksAre, StandsAt}
 use Rattle.av1_tile.specs.Items.{IsNearLast, CanCome, Steps, Begins, EndsKept, EndsUndone}
-use Rattle.av1_tile.specs.Marks.{back_to, IsMarkOf, AreMarks}
-use Rattle.av1_tile.specs.Script.{after_step, tile_after, tile_with, tokens_of}
-use Rattle.av1_tile.specs.Sound.{IsSound}
-use Rattle.av1_tile.specs.State.{tile_of, log_of}
-use Rattle.av1_tile.specs.Step.{most_bits, entered, is_untried, step_fault}
-use Rattle.av1_tile.specs.Tile.{Tile, is_inside, with_numbers}
+use Rattle.av1_step.specs.Mark.{back_to, IsMarkOf}
+use Rattle.av1_tile.specs.Marks.{AreMarks}
+use Rattle.av1_step.specs.Script.{after_step, tile_after, tile_with, tokens_of}
+use Rattle.av1_step.specs.Sound.{IsSound}
+use Rattle.av1_step.specs.State.{tile_of, log_of}
+use Rattle.av1_step.specs.Step.{most_bits, entered, is_untried, step_fault}
+use Rattle.av1_step.specs.Tile.{Tile, is_inside, with_numbers}
 use Rattle.av1_tile.specs.Trials.{item_fault, error_of, Trial, Progress, with_costs, ended, cost_of, strays, no_trial, place_of, same_superblock, moved, misplaced, first_wrong}
-use Rattle.av1_tile.specs.Writing.{WroteStep}
+use Rattle.av1_step.specs.Writing.{WroteStep}
 use Rattle.av1_tile.proofs.Coded.{coded_after, coded_shift, told_is}
 use Rattle.av1_tile.proofs.Marks.{last_one, none_last, set-among, all_costs-with, begun-with, marks_split, trials_still, marks_with}
-use Rattle.av1_tile.proofs.ReadingBack.{sound_after, shift_after, context-after}
-use Rattle.av1_tile.proofs.StepLaws.{IsAllowed, step_written}
+use Rattle.av1_step.proofs.ReadingBack.{sound_after, shift_after, context-after}
+use Rattle.av1_step.proofs.StepLaws.{IsAllowed, step_written}
 
 -- a step adds at most 2^24 bits
 step_rise : (at : Coding Tile) (step : TileStep) → IsSound at → IsAllowed step at.context → eighths (after_step at step).interval ≤ 8 * (bits at.interval + 2 ^ 24)

@@ -5,17 +5,17 @@ use Rattle.av1_model.specs.Reading.{Coding}
 use Rattle.av1_tile.specs.declared.error.UnitError.{UnitError}
 use Rattle.av1_tile.specs.declared.error.UnitError.TheVariants.{BadScript}
 use Rattle.av1_tile.specs.declared.report.TrialCost.{TrialCost}
-use Rattle.av1_tile.specs.declared.unit.Item.{Item}
-use Rattle.av1_tile.specs.declared.unit.Item.TheVariants.{Step, Begin, Keep, Abandon}
-use Rattle.av1_tile.specs.declared.unit.TileStep.{TileStep}
-use Rattle.av1_tile.specs.Tile.{Tile}
+use Rattle.av1_step.specs.declared.unit.Item.{Item}
+use Rattle.av1_step.specs.declared.unit.Item.TheVariants.{Step, Begin, Keep, Abandon}
+use Rattle.av1_step.specs.declared.step.TileStep.{TileStep}
+use Rattle.av1_step.specs.Tile.{Tile}
 use Rattle.av1_geometry.specs.declared.error.Rule.{Rule}
 use Rattle.av1_geometry.specs.Rules.{first_broken}
-use Rattle.av1_tile.specs.Script.{after_step, after_all, first_broken_step}
-use Rattle.av1_tile.specs.declared.error.StepFault.TheVariants.{TooLong, Broken}
+use Rattle.av1_step.specs.Script.{after_step, after_all, first_broken_step}
+use Rattle.av1_step.specs.declared.error.StepFault.TheVariants.{TooLong, Broken}
 use Rattle.av1_tile.specs.Trials.{too_long, item_fault, error_of, Trial, Progress, with_costs, cost_of, moved, moved_all, surviving_from, misplaced, item_rules, first_wrong}
-use Rattle.av1_tile.proofs.StepLaws.{IsAllowed}
-use Rattle.av1_tile.proofs.ReadingBack.{allowed}
+use Rattle.av1_step.proofs.StepLaws.{IsAllowed}
+use Rattle.av1_step.proofs.ReadingBack.{allowed}
 
 pub after_all-append : (at : Coding Tile) (xs ys : List TileStep) → after_all at (xs ++ ys) ≡ after_all (after_all at xs) ys
 after_all-append at [] ys = refl

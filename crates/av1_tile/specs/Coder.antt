@@ -7,11 +7,12 @@ use Rattle.av1_model.specs.Interval.{Interval, Token, whole}
 use Rattle.av1_model.specs.Position.{Position, advance_all, encoder_at}
 use Rattle.av1_tile.specs.declared.coding.TileCoder.{TileCoder}
 use Rattle.av1_tile.specs.declared.report.TrialCost.{TrialCost}
-use Rattle.av1_tile.specs.declared.tile.TileState.{TileState}
-use Rattle.av1_tile.specs.declared.trial.TrialMark.{TrialMark}
-use Rattle.av1_tile.specs.Marks.{back_to, AreMarks}
-use Rattle.av1_tile.specs.State.{tile_of, log_of}
-use Rattle.av1_tile.specs.Sound.{IsSound}
+use Rattle.av1_step.specs.declared.tile.TileState.{TileState}
+use Rattle.av1_step.specs.declared.trial.TrialMark.{TrialMark}
+use Rattle.av1_step.specs.Mark.{back_to}
+use Rattle.av1_tile.specs.Marks.{AreMarks}
+use Rattle.av1_step.specs.State.{tile_of, log_of}
+use Rattle.av1_step.specs.Sound.{IsSound}
 use Rattle.av1_tile.specs.Trials.{Trial, Progress}
 
 -- the cost of a trial that has not ended, which is not known yet

@@ -8,17 +8,18 @@ use Rattle.av1_ec.specs.declared.known.Known.{Ghosts}
 use Rattle.av1_geometry.specs.declared.block_offset.BlockOffset.{BlockOffset}
 use Rattle.av1_geometry.specs.declared.block_offset.TileBlockOffset.{TileBlockOffset}
 use Rattle.av1_geometry.specs.declared.error.OutOfMemory.{OutOfMemory}
-use Rattle.av1_tile.specs.declared.tile.TileState.{TileState}
-use Rattle.av1_tile.specs.declared.trial.TrialMark.{TrialMark}
-use Rattle.av1_tile.specs.declared.unit.Item.{Item}
-use Rattle.av1_tile.specs.declared.unit.Item.TheVariants.{Step, Begin, Keep, Abandon}
-use Rattle.av1_tile.specs.declared.unit.TileStep.{TileStep}
-use Rattle.av1_tile.specs.Marks.{back_to, IsMarkOf, WentBack, AllStandStill}
-use Rattle.av1_tile.specs.State.{tile_of, log_of}
-use Rattle.av1_tile.specs.Step.{entered, is_untried, step_fault}
-use Rattle.av1_tile.specs.Tile.{Tile, is_inside, with_numbers}
+use Rattle.av1_step.specs.declared.tile.TileState.{TileState}
+use Rattle.av1_step.specs.declared.trial.TrialMark.{TrialMark}
+use Rattle.av1_step.specs.declared.unit.Item.{Item}
+use Rattle.av1_step.specs.declared.unit.Item.TheVariants.{Step, Begin, Keep, Abandon}
+use Rattle.av1_step.specs.declared.step.TileStep.{TileStep}
+use Rattle.av1_step.specs.Mark.{back_to, IsMarkOf, WentBack}
+use Rattle.av1_tile.specs.Marks.{AllStandStill}
+use Rattle.av1_step.specs.State.{tile_of, log_of}
+use Rattle.av1_step.specs.Step.{entered, is_untried, step_fault}
+use Rattle.av1_step.specs.Tile.{Tile, is_inside, with_numbers}
 use Rattle.av1_tile.specs.Trials.{place_of, same_superblock}
-use Rattle.av1_tile.specs.Writing.{WroteStep}
+use Rattle.av1_step.specs.Writing.{WroteStep}
 
 -- a place is in the superblock of the last mark, where there is one
 abbrev pub IsNearLast : List TrialMark → BlockOffset → Type 0

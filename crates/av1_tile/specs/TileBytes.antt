@@ -1,26 +1,17 @@
 -- What is coded of a tile.
 use Rattle.std.specs.Prelude.{◌≡◌, ℕ, List, [], Option, Some, map, length, slice_index_or}
-use Rattle.av1_cdf.specs.Tables.{set_at, set_number}
-use Rattle.av1_model.specs.Interval.{Interval, whole, bits, final_bytes}
+use Rattle.av1_model.specs.Interval.{Interval, bits, final_bytes}
 use Rattle.av1_model.specs.Reading.{Coding}
 use Rattle.av1_tile.specs.declared.error.UnitError.{UnitError}
 use Rattle.av1_tile.specs.declared.report.TileReport.{TileReport}
 use Rattle.av1_tile.specs.declared.report.TrialCost.{TrialCost}
-use Rattle.av1_tile.specs.declared.unit.Item.{Item}
-use Rattle.av1_tile.specs.declared.unit.Unit.{Unit}
-use Rattle.av1_tile.specs.Given.{Given, given_of}
-use Rattle.av1_tile.specs.Script.{read_steps}
-use Rattle.av1_tile.specs.Step.{question_of}
-use Rattle.av1_tile.specs.Tile.{Tile, fresh}
+use Rattle.av1_step.specs.declared.unit.Item.{Item}
+use Rattle.av1_step.specs.declared.unit.Unit.{Unit}
+use Rattle.av1_step.specs.Given.{Given, given_of}
+use Rattle.av1_step.specs.Script.{begin, read_steps}
+use Rattle.av1_step.specs.Step.{question_of}
+use Rattle.av1_step.specs.Tile.{Tile}
 use Rattle.av1_tile.specs.Trials.{Progress, surviving, moved_all, first_wrong}
-
--- the numbers that the distributions of a frame's tiles start from: those of the set for its quantizer
-abbrev pub numbers_of : Given → List ℕ
-numbers_of g = set_at g.tables (set_number g.fi.base_q_idx)
-
--- what is coded before the first step of tile number k: nothing
-abbrev pub begin : Given → ℕ → Coding Tile
-begin g k = record { interval = whole; context = fresh g k (numbers_of g) }
 
 -- before the first item
 abbrev pub started : Coding Tile → Progress

@@ -8,16 +8,16 @@ use Rattle.av1_geometry.specs.declared.block_offset.BlockOffset.{BlockOffset}
 use Rattle.av1_tile.specs.declared.error.Place.TheVariants.{Item as ItemPlace}
 use Rattle.av1_tile.specs.declared.error.UnitError.{UnitError}
 use Rattle.av1_tile.specs.declared.error.UnitError.TheVariants.{Refused, BadScript, TooLong as TooLongError}
-use Rattle.av1_tile.specs.declared.error.StepFault.{StepFault}
-use Rattle.av1_tile.specs.declared.error.StepFault.TheVariants.{TooLong, Broken}
+use Rattle.av1_step.specs.declared.error.StepFault.{StepFault}
+use Rattle.av1_step.specs.declared.error.StepFault.TheVariants.{TooLong, Broken}
 use Rattle.av1_tile.specs.declared.report.TrialCost.{TrialCost}
-use Rattle.av1_tile.specs.declared.unit.Item.{Item}
-use Rattle.av1_tile.specs.declared.unit.Item.TheVariants.{Step, Begin, Keep, Abandon}
-use Rattle.av1_tile.specs.declared.unit.TileStep.{TileStep}
-use Rattle.av1_tile.specs.Tile.{Tile, is_inside}
-use Rattle.av1_geometry.specs.Rules.{Check, first_broken, rule}
-use Rattle.av1_tile.specs.Step.{question_of, kind_of, is_untried, rules, most_bits}
-use Rattle.av1_tile.specs.Script.{after_step}
+use Rattle.av1_step.specs.declared.unit.Item.{Item}
+use Rattle.av1_step.specs.declared.unit.Item.TheVariants.{Step, Begin, Keep, Abandon}
+use Rattle.av1_step.specs.declared.step.TileStep.{TileStep}
+use Rattle.av1_step.specs.Tile.{Tile, inside}
+use Rattle.av1_geometry.specs.Rules.{Check, first_broken}
+use Rattle.av1_step.specs.Step.{is_untried, most_bits, place_of_step, rules}
+use Rattle.av1_step.specs.Script.{after_step}
 
 -- The steps that survive: each `Abandon` strikes out everything back to the `Begin` that it ends. `outer` has what
 -- survived before each trial that has begun, the innermost first.
@@ -74,7 +74,7 @@ moved_all n p (item ∷ items) = moved_all (n + 1) (moved n p item) items
 
 -- the place of an item: its own, or the current block's
 abbrev pub place_of : Item → Tile → Option BlockOffset
-place_of (Step step) t = (kind_of (question_of step) t).place
+place_of (Step step) t = place_of_step step t
 place_of (Begin place) t = Some place.0
 place_of Keep t = None
 place_of Abandon t = None
@@ -101,7 +101,7 @@ misplaced Abandon t trials = no_trial trials
 -- the rules of an item, by rising numbers
 abbrev pub item_rules : Item → Tile → List Check
 item_rules (Step step) t = rules step t
-item_rules (Begin place) t = rule 60 (is_inside t place.0) ∷ []
+item_rules (Begin place) t = inside place.0 t ∷ []
 item_rules Keep t = []
 item_rules Abandon t = []
 

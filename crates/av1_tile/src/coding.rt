@@ -1,120 +1,36 @@
 // From the items of a script to the bytes of a tile.
-ghost use Rattle.std.specs.Prelude.{◌≡◌, ◌⊎◌, ◌&&◌, ℕ, ◌+◌, ◌*◌, ◌^◌, ◌<◌, ◌≤◌, true, false, length, not, None, Some, IfOk, IfErr, OnOk, option_map};
+ghost use Rattle.std.specs.Prelude.{◌≡◌, ◌⊎◌, ℕ, ◌+◌, ◌*◌, ◌^◌, ◌<◌, ◌≤◌, false, length, None, Some, IfOk, IfErr, OnOk};
 ghost use Rattle.av1_tile.specs.declared.error.UnitError.{UnitError};
 ghost use Rattle.av1_tile.specs.declared.error.UnitError.TheVariants.{OutOfMemory as MemoryError};
-ghost use Rattle.av1_tile.specs.declared.unit.Item.{Item};
+ghost use Rattle.av1_step.specs.declared.unit.Item.{Item};
 ghost use Rattle.av1_model.specs.Eighths.{eighths};
 ghost use Rattle.av1_model.specs.Interval.{bits, final_bytes};
 ghost use Rattle.av1_model.specs.Position.{encoder_at};
 ghost use Rattle.av1_tile.specs.Coder.{IsNew, HasCoded, IsReplayed};
-ghost use Rattle.av1_tile.specs.Given.{given_of, tile_count, IsGiven};
-ghost use Rattle.av1_tile.specs.Step.{is_untried};
-ghost use Rattle.av1_tile.specs.Trials.{error_of};
+ghost use Rattle.av1_step.specs.Given.{given_of, tile_count, IsGiven};
 ghost use Rattle.av1_tile.specs.TileBytes.{script_of, wrong_in, ending, costs_of};
 
-use crate::check::check_step;
 use crate::costs::TrialCosts;
-use crate::may_come::is_untried;
-use crate::tile::TileState;
-use crate::trial::TrialMark;
-use crate::{Item, Place, StepFault, TileStep, TrialCost, Unit, UnitError, Via};
+use crate::item::write_item;
+use crate::{Item, TileState, TrialCost, TrialMark, Unit, UnitError};
 use av1_ec::{Known, Writer, WriterBase, WriterEncoder, WriterRecorder, law_of_recorders};
-use av1_geometry::{BlockOffset, OutOfMemory, Rule, TileBlockOffset};
+use av1_geometry::OutOfMemory;
 use std::alloc::Global;
 
 /// A tile on its way: what is coded, the trials that have begun, and what trials cost.
 #[derive(Drop)]
 pub(crate) struct TileCoder<'u, W> {
-    tile: TileState<'u>,
-    writer: W,
-    // What the trials that have begun and not ended keep, the innermost last.
-    marks: Vec<TrialMark>,
+    pub tile: TileState<'u>,
+    pub writer: W,
+
+    /// What the trials that have begun and not ended keep, the innermost last.
+    pub marks: Vec<TrialMark>,
     costs: TrialCosts,
 }
 
 impl<'u, W: Writer> TileCoder<'u, W> {
     ghost use Rattle.av1_tile.specs.Coder.{Stands, Knows, Proceeds};
-    ghost use Rattle.av1_tile.specs.State.{tile_of};
-    ghost use Rattle.av1_tile.specs.Trials.{moved, moved_all, misplaced, no_trial, item_fault, strays, first_wrong, place_of, IsRight, IsWrong};
-    ghost use Rattle.av1_tile.specs.declared.unit.Item.TheVariants.{Step, Begin, Keep, Abandon};
-
-    // Whether a place lies in another superblock than the innermost trial.
-    fn strays(&self, place: BlockOffset) -> bool
-        ensures { Knows W.Known self.now (λ p. result ≡ strays p.trials (Some place)) }
-    {
-        match self.marks.last() {
-            Some(mark) => place.sb_offset() != mark.place.0.sb_offset(),
-            None => false,
-        }
-    }
-
-    // Whether a trial has begun and not ended.
-    fn is_in_trial(&self) -> bool
-        ensures { Knows W.Known self.now (λ p. result ≡ not (no_trial p.trials)) }
-    {
-        !self.marks.is_empty()
-    }
-
-    // Whether a step lies in another superblock than the innermost trial.
-    fn is_astray(&self, step: &TileStep) -> bool
-        ensures { Knows W.Known self.now (λ p. result ≡ strays p.trials (place_of (Step step.now) p.at.context)) }
-    {
-        match self.tile.place_of(step) {
-            Some(place) => self.strays(place),
-            None => false,
-        }
-    }
-
-    // Whether a trial has begun that can't have a step.
-    fn is_barred(&self, step: &TileStep) -> bool
-        ensures { Knows W.Known self.now (λ p. result ≡ (is_untried step.now && not (no_trial p.trials))) }
-    {
-        is_untried(step) && self.is_in_trial()
-    }
-
-    // Whether a step can't come here: no trial has it, or it strays from the innermost one.
-    fn is_misplaced_step(&self, step: &TileStep) -> bool
-        ensures { Knows W.Known self.now (λ p. result ≡ misplaced (Step step.now) p.at.context p.trials) }
-    {
-        self.is_barred(step) || self.is_astray(step)
-    }
-
-    // Whether an item can't come here: it ends no trial, no trial has it, or it strays from the innermost one.
-    fn is_misplaced(&self, item: &Item) -> bool
-        ensures { Knows W.Known self.now (λ p. result ≡ misplaced item.now p.at.context p.trials) }
-    {
-        match item {
-            Item::Step(step) => self.is_misplaced_step(step),
-            Item::Begin(place) => self.strays(place.0),
-            Item::Keep | Item::Abandon => self.marks.is_empty(),
-        }
-    }
-
-    // What is wrong with an item that may come here.
-    fn check_item(&self, item: &Item) -> Option<StepFault>
-        ensures { Knows W.Known self.now (λ p. result ≡ item_fault item.now p.at) }
-    {
-        match item {
-            Item::Step(step) => check_step(&self.tile, self.writer.tell(), step),
-            Item::Begin(place) if !self.tile.contains(place.0) => Some(StepFault::Broken(Rule(60))),
-            Item::Begin(_) | Item::Keep | Item::Abandon => None,
-        }
-    }
-
-    // What is wrong with item `n`.
-    fn check(&self, n: usize, item: &Item) -> Result<(), UnitError>
-        ensures ok { OnOk result (Knows W.Known self.now (λ p. (misplaced item.now p.at.context p.trials ≡ false) × (item_fault item.now p.at ≡ None))) }
-        ensures err { IfErr result (λ e. Knows W.Known self.now (λ p. IsWrong n p item.now e)) }
-    {
-        let tile = self.tile.number();
-        if self.is_misplaced(item) {
-            return Err(UnitError::BadScript { tile, item: n });
-        }
-        match self.check_item(item) {
-            Some(fault) => Err(error_of(tile, n, fault)),
-            None => Ok(()),
-        }
-    }
+    ghost use Rattle.av1_tile.specs.Trials.{moved, moved_all, misplaced, item_fault, first_wrong, IsRight, IsWrong};
 
     // Takes item `n`, with which nothing is wrong.
     fn take(&mut self, alloc: Global, n: usize, item: &Item) -> Result<(), OutOfMemory>
@@ -123,9 +39,13 @@ impl<'u, W: Writer> TileCoder<'u, W> {
         ensures { OnOk result (Proceeds W.Known self.old self.new (λ p. moved n p item.now)) }
     {
         let tile = self.tile.number();
-        let answer = self
-            .tile
-            .write_item(alloc, &mut self.writer, &mut self.marks, item)?;
+        let answer = write_item(
+            alloc,
+            &mut self.tile,
+            &mut self.writer,
+            &mut self.marks,
+            item,
+        )?;
         let eighths = answer.unwrap_or(0);
         match item {
             Item::Step(_) => {}
@@ -169,15 +89,15 @@ impl<'u, W: Writer> TileCoder<'u, W> {
     }
 }
 
-// The error that says what is wrong with item `n` of a tile.
-fn error_of(tile: u32, n: usize, fault: StepFault) -> UnitError
-    ensures { result ≡ error_of tile n fault }
-{
-    let place = Place::Item { tile, item: n };
-    match fault {
-        StepFault::TooLong => UnitError::TooLong { place },
-        StepFault::Broken(rule) => UnitError::Refused { place, rule },
-    }
+/// The way of a tile's symbols to its bytes. It changes no byte.
+#[derive(Clone, Copy, Debug, Default, PartialEq, Eq)]
+pub enum Via {
+    /// Through an encoder.
+    #[default]
+    Direct,
+
+    /// Through a recorder, which is then replayed into an encoder.
+    Recorded,
 }
 
 /// A tile that is coded.
@@ -232,7 +152,7 @@ fn replayed(
 }
 
 // Codes the items as `code_by` does, by an encoder or by a recorder that is replayed into one. The encoder is the same.
-fn encode(
+fn code_via(
     alloc: Global,
     unit: &Unit,
     tile: usize,
@@ -275,7 +195,7 @@ pub fn code_tile(alloc: Global, unit: &Unit, tile: usize, via: Via) -> Result<Co
     ensures short { IfOk result (λ r. length r.bytes.items ≤ 2 ^ 26) }
     ensures err { IfErr result (λ e. (e ≡ MemoryError) ⊎ (wrong_in (given_of unit.now) tile (script_of unit.now tile) ≡ Some e)) }
 {
-    let (encoder, trials) = encode(alloc, unit, tile, via)?;
+    let (encoder, trials) = code_via(alloc, unit, tile, via)?;
     let bits = encoder.tell();
     Ok(CodedTile {
         bytes: encoder.done()?,

@@ -31,16 +31,6 @@ pub enum Place {
     Obu { index: usize },
 }
 
-/// Why a step isn't written.
-#[derive(Clone, Copy, Debug, PartialEq, Eq)]
-pub enum StepFault {
-    /// It would begin after more than 2^28 bits.
-    TooLong,
-
-    /// It breaks this rule, and none of a lower number.
-    Broken(Rule),
-}
-
 /// Why a unit isn't written.
 #[derive(Clone, Copy, Debug, PartialEq, Eq, Error)]
 pub enum UnitError {

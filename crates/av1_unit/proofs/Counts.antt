@@ -9,7 +9,7 @@ use Rattle.av1_frame.specs.TileRules.{tile_rules, tiling_fits, tiling_of}
 use Rattle.av1_header.proofs.RulesFit.{all_hold, both, first_hold, is_at_most, is_below, later_hold}
 use Rattle.av1_model.specs.Interval.{final_bytes}
 use Rattle.av1_tile.specs.declared.report.TileReport.{TileReport}
-use Rattle.av1_tile.specs.Given.{Given, tile_count, IsGiven}
+use Rattle.av1_step.specs.Given.{Given, tile_count, IsGiven}
 use Rattle.av1_tile.specs.TileBytes.{ending, tile_report}
 use Rattle.av1_unit.specs.Checked.{IsChecked}
 use Rattle.av1_unit.specs.Coded.{Numbered, numbered, tiles_of, told_of}

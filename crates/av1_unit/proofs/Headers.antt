@@ -12,7 +12,7 @@ use Rattle.av1_header.specs.FrameHeader.{FrameFits, shows_existing}
 use Rattle.av1_header.specs.SequenceHeader.{SequenceFits}
 use Rattle.av1_header.proofs.FrameFitLaws.{frame_within, sequence_within}
 use Rattle.av1_header.proofs.RulesFit.{all_hold, both, first_hold}
-use Rattle.av1_tile.specs.Given.{Given, IsGiven}
+use Rattle.av1_step.specs.Given.{Given, IsGiven}
 use Rattle.av1_unit.specs.Framing.{frame_with}
 
 -- the rules don't see how many bytes the size of a tile has

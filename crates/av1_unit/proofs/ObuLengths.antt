@@ -16,7 +16,7 @@ use Rattle.av1_geometry.specs.declared.error.Rule.{Rule}
 use Rattle.av1_tile.specs.declared.error.Place.TheVariants as places
 use Rattle.av1_tile.specs.declared.error.UnitError.TheVariants.{Refused}
 use Rattle.av1_tile.specs.declared.error.UnitError.{UnitError}
-use Rattle.av1_tile.specs.Given.{Given}
+use Rattle.av1_step.specs.Given.{Given}
 use Rattle.av1_unit.specs.Findings.{first_of, length_wrong, lengths_wrong, messages_wrong, message_wrong, Finds, FindsInRoom}
 use Rattle.av1_unit.specs.Framing.{Obu, bytes_of_obus, delimiter_obus, frame_obus, frame_payload, framed, message_obu, message_obus, obus, sequence_obus, sequence_payload, where_true, with_payload}
 use Rattle.av1_unit.specs.Lengths.{count_of, obus_before_frame}

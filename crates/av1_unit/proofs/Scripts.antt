@@ -5,8 +5,8 @@ use Rattle.std.proofs.lemmas.Grind.{flat_map-append}
 use Rattle.std.proofs.lemmas.List.{append-nil, map-append}
 use Rattle.av1_model.specs.Interval.{final_bytes}
 use Rattle.av1_tile.specs.declared.error.UnitError.{UnitError}
-use Rattle.av1_tile.specs.declared.unit.Item.{Item}
-use Rattle.av1_tile.specs.Given.{Given}
+use Rattle.av1_step.specs.declared.unit.Item.{Item}
+use Rattle.av1_step.specs.Given.{Given}
 use Rattle.av1_tile.specs.TileBytes.{costs_of, ending, tile_report, wrong_in}
 use Rattle.av1_unit.specs.declared.tiles.CodedTiles.{CodedTiles}
 use Rattle.av1_unit.specs.Coded.{Numbered, tiles_of, told_of, trials_of}

@@ -8,22 +8,23 @@ use Rattle.av1_model.specs.Position.{Position, encoder_at}
 use Rattle.av1_model.specs.Reading.{Coding}
 use Rattle.av1_model.proofs.Final.{holds_final, length-final_bytes}
 use Rattle.av1_model.proofs.Positions.{fake_advanced_all, shift_advanced_all}
-use Rattle.av1_tile.specs.declared.error.StepFault.{StepFault}
-use Rattle.av1_tile.specs.declared.error.StepFault.TheVariants.{TooLong, Broken}
+use Rattle.av1_step.specs.declared.error.StepFault.{StepFault}
+use Rattle.av1_step.specs.declared.error.StepFault.TheVariants.{TooLong, Broken}
 use Rattle.av1_tile.specs.declared.error.UnitError.{UnitError}
 use Rattle.av1_tile.specs.declared.error.UnitError.TheVariants.{BadScript, SinkFault}
 use Rattle.av1_tile.specs.declared.report.TileReport.{TileReport}
-use Rattle.av1_tile.specs.declared.unit.Item.{Item}
+use Rattle.av1_step.specs.declared.unit.Item.{Item}
 use Rattle.av1_tile.specs.Coder.{HasCoded}
-use Rattle.av1_tile.specs.Given.{Given, IsGiven, tile_count}
-use Rattle.av1_tile.specs.Script.{after_all}
-use Rattle.av1_tile.specs.Sound.{IsSound}
-use Rattle.av1_tile.specs.Step.{question_of}
-use Rattle.av1_tile.specs.Tile.{Tile}
-use Rattle.av1_tile.specs.TileBytes.{begin, ending, started, tile_report, wrong_in, IsTile}
+use Rattle.av1_step.specs.Given.{Given, IsGiven, tile_count}
+use Rattle.av1_step.specs.Script.{after_all}
+use Rattle.av1_step.specs.Sound.{IsSound}
+use Rattle.av1_step.specs.Step.{question_of}
+use Rattle.av1_step.specs.Tile.{Tile}
+use Rattle.av1_step.specs.Script.{begin}
+use Rattle.av1_tile.specs.TileBytes.{ending, started, tile_report, wrong_in, IsTile}
 use Rattle.av1_tile.specs.Trials.{Progress, surviving, moved, moved_all, misplaced, item_fault, error_of, no_trial, first_wrong}
-use Rattle.av1_tile.proofs.Fresh.{fresh_sound}
-use Rattle.av1_tile.proofs.ReadingBack.{sound_after_all, read_all, read_is}
+use Rattle.av1_step.proofs.Fresh.{fresh_sound}
+use Rattle.av1_step.proofs.ReadingBack.{sound_after_all, read_all, read_is}
 use Rattle.av1_tile.proofs.Surviving.{none_match, survives}
 
 begin_sound : (g : Given) (k : ℕ) → IsGiven g → k < tile_count g.fi → IsSound (begin g k)

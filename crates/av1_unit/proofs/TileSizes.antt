@@ -13,7 +13,7 @@ use Rattle.std.proofs.lemmas.List.Sums.{sum-map, sum_by-append, sum_by-cons, sum
 use Rattle.av1_unit.specs.Framing.{but_last, bytes_for, frame_header, frame_payload, greatest, lengths_of, size_bytes, size_of, sized, tile_group}
 use Rattle.av1_unit.specs.Lengths.{bytes_told, count_of, HasLengths, SizesFit}
 use Rattle.av1_tile.specs.declared.report.TileReport.{TileReport}
-use Rattle.av1_tile.specs.Given.{Given}
+use Rattle.av1_step.specs.Given.{Given}
 
 pub as_count : (there : Bool) → bool_byte there ≡ count_of there
 as_count true = refl

@@ -9,7 +9,7 @@ use Rattle.av1_frame.specs.declared.metadata.Metadata.TheVariants.{Cll, Mdcv, T3
 use Rattle.av1_frame.specs.declared.obu.ObuType.{ObuType}
 use Rattle.av1_frame.specs.declared.obu.ObuType.TheVariants.{OBU_FRAME, OBU_METADATA, OBU_SEQUENCE_HEADER, OBU_TEMPORAL_DELIMITER}
 use Rattle.av1_frame.specs.declared.sequence.Sequence.{Sequence}
-use Rattle.av1_tile.specs.Given.{Given}
+use Rattle.av1_step.specs.Given.{Given}
 use Rattle.av1_unit.specs.Apart.{kind_and_payload, take_unit, TakenUnit}
 use Rattle.av1_unit.specs.Framing.{Obu, delimiter_obus, frame_payload, framed, message_obu, message_obus, messages_of, obus, sequence_obus, sequence_payload, where_true, with_payload}
 use Rattle.av1_unit.proofs.MessageParts.{display_obu, light_obu, t35_obu}

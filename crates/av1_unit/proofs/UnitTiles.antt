@@ -3,7 +3,7 @@ use Rattle.std.proofs.Common.{◌≡◌, ℕ, List, [], ◌∷◌, None, drop, l
 use Rattle.std.proofs.Math.Seq.{drop-append_seam}
 use Rattle.std.proofs.lemmas.List.FromFn.{length-enumerate_from}
 use Rattle.av1_model.proofs.Final.{length-final_bytes}
-use Rattle.av1_tile.specs.Given.{Given}
+use Rattle.av1_step.specs.Given.{Given}
 use Rattle.av1_tile.specs.TileBytes.{ending}
 use Rattle.av1_unit.specs.Apart.{tiles_in}
 use Rattle.av1_unit.specs.Coded.{Numbered, numbered, tiles_of}

@@ -18,8 +18,8 @@ use Rattle.av1_tile.specs.declared.error.Place.TheVariants as places
 use Rattle.av1_tile.specs.declared.error.UnitError.{UnitError}
 use Rattle.av1_tile.specs.declared.error.UnitError.TheVariants.{OutOfMemory, Refused, SinkFault, TooLong}
 use Rattle.av1_tile.specs.declared.report.TileReport.{TileReport}
-use Rattle.av1_tile.specs.declared.unit.Item.{Item}
-use Rattle.av1_tile.specs.Given.{broken_scan_rule, Given, tile_count, IsGiven}
+use Rattle.av1_step.specs.declared.unit.Item.{Item}
+use Rattle.av1_step.specs.Given.{broken_scan_rule, Given, tile_count, IsGiven}
 use Rattle.av1_tile.specs.TileBytes.{ending, tile_report, wrong_in}
 use Rattle.av1_unit.specs.Checked.{IsChecked}
 use Rattle.av1_unit.specs.Coded.{Numbered, numbered, report_of, tiles_of, told_of}

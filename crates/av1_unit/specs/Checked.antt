@@ -1,7 +1,7 @@
 -- What is known of a unit before its scripts are coded.
 use Rattle.std.specs.Prelude.{◌≡◌, None, length}
 use Rattle.std.specs.List.{enumerate_from}
-use Rattle.av1_tile.specs.Given.{tile_count, IsGiven}
+use Rattle.av1_step.specs.Given.{tile_count, IsGiven}
 use Rattle.av1_unit.specs.Findings.{messages_wrong}
 use Rattle.av1_unit.specs.Plain.{PlainUnit}
 

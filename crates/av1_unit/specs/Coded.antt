@@ -4,8 +4,8 @@ use Rattle.std.specs.List.{enumerate_from, flat_map}
 use Rattle.av1_model.specs.Interval.{final_bytes}
 use Rattle.av1_tile.specs.declared.report.TileReport.{TileReport}
 use Rattle.av1_tile.specs.declared.report.TrialCost.{TrialCost}
-use Rattle.av1_tile.specs.declared.unit.Item.{Item}
-use Rattle.av1_tile.specs.Given.{Given}
+use Rattle.av1_step.specs.declared.unit.Item.{Item}
+use Rattle.av1_step.specs.Given.{Given}
 use Rattle.av1_tile.specs.TileBytes.{costs_of, ending, tile_report}
 use Rattle.av1_unit.specs.Plain.{PlainUnit}
 use Rattle.av1_unit.specs.Report.{ReportLists}

@@ -12,7 +12,7 @@ use Rattle.av1_tile.specs.declared.error.Place.{Place}
 use Rattle.av1_tile.specs.declared.error.Place.TheVariants as places
 use Rattle.av1_tile.specs.declared.error.UnitError.{UnitError}
 use Rattle.av1_tile.specs.declared.error.UnitError.TheVariants.{Refused, TooLong, OutOfMemory}
-use Rattle.av1_tile.specs.Given.{Given, broken_scan_rule, tile_count}
+use Rattle.av1_step.specs.Given.{Given, broken_scan_rule, tile_count}
 use Rattle.av1_tile.specs.TileBytes.{wrong_in}
 use Rattle.av1_unit.specs.Coded.{Numbered, numbered, tiles_of}
 use Rattle.av1_unit.specs.Framing.{Obu, obus}

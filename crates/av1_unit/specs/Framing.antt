@@ -19,7 +19,7 @@ use Rattle.av1_header.specs.SequenceHeader.{sequence_header}
 use Rattle.av1_model.specs.Bits.{byte_aligned}
 use Rattle.av1_model.specs.Codes.{leb128}
 use Rattle.av1_model.specs.WholeBytes.{to_bytes}
-use Rattle.av1_tile.specs.Given.{Given}
+use Rattle.av1_step.specs.Given.{Given}
 
 -- an OBU of a kind: how many bytes its payload has, and all its bytes
 pub record Obu : Type 0 where

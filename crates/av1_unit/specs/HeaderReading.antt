@@ -11,7 +11,7 @@ use Rattle.av1_header.specs.RowReading.{read, values}
 use Rattle.av1_header.specs.Rows.{Rows, told}
 use Rattle.av1_header.specs.SequenceHeader.{sequence_header}
 use Rattle.av1_model.specs.Bits.{bits_of_bytes}
-use Rattle.av1_tile.specs.Given.{Given}
+use Rattle.av1_step.specs.Given.{Given}
 use Rattle.av1_unit.specs.Framing.{frame_payload, frame_with, lengths_of, message_obu, sequence_payload, size_bytes}
 
 -- bytes begin with a header: reading by its rows gives the value of each row that is there, and what the header tells

@@ -1,8 +1,8 @@
 -- What is promised of a unit that was written.
 use Rattle.std.specs.Prelude.{◌≡◌, ℕ, ◌+◌, List, [], ◌∷◌, None}
 use Rattle.av1_tile.specs.declared.report.TileReport.{TileReport}
-use Rattle.av1_tile.specs.declared.unit.Item.{Item}
-use Rattle.av1_tile.specs.Given.{Given}
+use Rattle.av1_step.specs.declared.unit.Item.{Item}
+use Rattle.av1_step.specs.Given.{Given}
 use Rattle.av1_tile.specs.TileBytes.{IsTile}
 use Rattle.av1_unit.specs.Coded.{numbered, tiles_of, trials_of}
 use Rattle.av1_unit.specs.Findings.{first_refusal}

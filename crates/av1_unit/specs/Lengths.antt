@@ -4,7 +4,7 @@ use Rattle.av1_frame.specs.FrameKind.{is_key}
 use Rattle.av1_model.specs.Bits.{IsByteAligned}
 use Rattle.av1_model.specs.WholeBytes.{to_bytes}
 use Rattle.av1_tile.specs.declared.report.TileReport.{TileReport}
-use Rattle.av1_tile.specs.Given.{Given}
+use Rattle.av1_step.specs.Given.{Given}
 use Rattle.av1_unit.specs.Framing.{Obu, lengths_of, size_bytes, size_of}
 
 abbrev pub bytes_told : TileReport → ℕ

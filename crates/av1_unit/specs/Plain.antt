@@ -1,8 +1,8 @@
 -- A unit as contracts see it: its members, with plain lists.
 use Rattle.std.specs.Prelude.{List}
-use Rattle.av1_tile.specs.declared.unit.Item.{Item}
-use Rattle.av1_tile.specs.declared.unit.Unit as declared
-use Rattle.av1_tile.specs.Given.{Given, given_of}
+use Rattle.av1_step.specs.declared.unit.Item.{Item}
+use Rattle.av1_step.specs.declared.unit.Unit as declared
+use Rattle.av1_step.specs.Given.{Given, given_of}
 
 -- what a reader is given, and the scripts of the tiles
 pub record PlainUnit : Type 0 where

@@ -1,6 +1,6 @@
 -- What the tiles of a unit are on their way.
 use Rattle.std.specs.Prelude.{List}
-use Rattle.av1_tile.specs.Given.{Given}
+use Rattle.av1_step.specs.Given.{Given}
 use Rattle.av1_unit.specs.declared.tiles.CodedTiles.{CodedTiles}
 use Rattle.av1_unit.specs.Coded.{Numbered, tiles_of, told_of, trials_of}
 

@@ -3,7 +3,7 @@ ghost use Rattle.std.specs.Prelude.{◌≡◌, option_map, OnOk};
 ghost use Rattle.std.specs.List.{enumerate_from};
 ghost use Rattle.av1_geometry.specs.Rules.{first_broken};
 ghost use Rattle.av1_tile.specs.declared.error.UnitError.TheVariants.{Refused};
-ghost use Rattle.av1_tile.specs.Given.{IsCut, broken_scan_rule};
+ghost use Rattle.av1_step.specs.Given.{IsCut, broken_scan_rule};
 ghost use Rattle.av1_unit.specs.Checked.{IsChecked};
 ghost use Rattle.av1_unit.specs.Findings.{Finds, first_of, messages_wrong, places_before, script_rules};
 ghost use Rattle.av1_unit.specs.Plain.{plain};

@@ -9,7 +9,7 @@ ghost use Rattle.av1_header.specs.RowReading.{ReadsBack};
 ghost use Rattle.av1_geometry.specs.Rules.{first_broken};
 ghost use Rattle.av1_model.specs.Bits.{IsByteAligned};
 ghost use Rattle.av1_model.specs.WholeBytes.{to_bytes};
-ghost use Rattle.av1_tile.specs.Given.{given_of};
+ghost use Rattle.av1_step.specs.Given.{given_of};
 ghost use Rattle.av1_unit.specs.Checked.{IsChecked};
 ghost use Rattle.av1_unit.specs.Findings.{lengths_wrong};
 ghost use Rattle.av1_unit.specs.Framing.{bytes_of_obus, delimiter_obus, frame_header, frame_payload, frame_with, framed, lengths_of, message_obu, message_obus, obu_head, obus, sequence_obus, sequence_payload, size_bytes, sized, tile_group, with_payload};

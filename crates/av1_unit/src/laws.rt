@@ -1,6 +1,6 @@
 // Laws of units. Each function is a theorem: it takes nothing and does nothing.
 ghost use Rattle.std.specs.Prelude.{◌≡◌, ℕ, ◌^◌, ◌≤◌, ◌++◌, List, [], Some, None, drop, length, map};
-ghost use Rattle.av1_tile.specs.Given.{Given, IsGiven, tile_count};
+ghost use Rattle.av1_step.specs.Given.{Given, IsGiven, tile_count};
 ghost use Rattle.av1_unit.specs.Apart.{kind_and_payload, take_unit, tiles_in};
 ghost use Rattle.av1_unit.specs.Coded.{numbered, report_of, tiles_of};
 ghost use Rattle.av1_unit.specs.Findings.{first_refusal};

@@ -1,6 +1,6 @@
 // How long tiles and the payloads of OBUs are.
 ghost use Rattle.std.specs.Prelude.{◌≡◌, ◌^◌, ◌<◌, ◌≤◌, List, ℕ, length, map, sum, IfOk};
-ghost use Rattle.av1_tile.specs.Given.{given_of};
+ghost use Rattle.av1_step.specs.Given.{given_of};
 ghost use Rattle.av1_unit.specs.Checked.{IsChecked};
 ghost use Rattle.av1_unit.specs.Findings.{Finds, FindsInRoom, length_wrong, lengths_wrong};
 ghost use Rattle.av1_unit.specs.Framing.{bytes_for, frame_payload, greatest, obus, sequence_obus, size_bytes, size_of, tile_group};

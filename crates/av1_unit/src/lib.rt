@@ -12,7 +12,7 @@
 //! - `report`: what is answered
 //! - `laws`: theorems of written units
 //!
-//! The types of a unit and the steps of a tile are `av1_tile`'s, those of headers `av1_frame`'s, both handed on here.
+//! The types of a unit and the steps of a tile are those of `av1_tile` and `av1_step`, those of headers `av1_frame`'s, both handed on here.
 #![tactic(auto)]
 
 mod check;
@@ -32,7 +32,7 @@ pub use av1_header::{
 pub use av1_tile::{
     Item, Levels, Place, StepFault, TileReport, TileScript, TileState, TileStep, TrialCost,
     TrialMark, Unit, UnitError, Via, can_come, check_step, law_of_read_steps, law_of_reading_steps,
-    law_of_steps, law_of_trials,
+    law_of_steps, law_of_trials, write_item,
 };
 pub use laws::{law_of_taking_apart, law_of_tile_counts, law_of_written_units};
 pub use report::Report;

@@ -1,6 +1,6 @@
 // The tiles of a unit, coded one after another, or only counted.
 ghost use Rattle.std.specs.Prelude.{◌≡◌, ◌^◌, ◌<◌, ◌++◌, [], ◌∷◌, length, slice_index_or, IfOk, OnOk};
-ghost use Rattle.av1_tile.specs.Given.{given_of};
+ghost use Rattle.av1_step.specs.Given.{given_of};
 ghost use Rattle.av1_tile.specs.TileBytes.{script_of, tile_report, wrong_in};
 ghost use Rattle.av1_unit.specs.Checked.{IsChecked};
 ghost use Rattle.av1_unit.specs.Coded.{numbered, told_of};

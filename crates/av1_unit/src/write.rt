@@ -2,7 +2,7 @@
 ghost use Rattle.std.specs.Prelude.{◌≡◌, ◌⊎◌, ℕ, ◌<◌, length, take, None, Some, IfOk, IfErr, OnOk, IsErrOf};
 ghost use Rattle.av1_bits.specs.Outside.{Rose, appended};
 ghost use Rattle.av1_tile.specs.declared.error.UnitError.TheVariants.{OutOfMemory as MemoryError, SinkFault};
-ghost use Rattle.av1_tile.specs.Given.{given_of};
+ghost use Rattle.av1_step.specs.Given.{given_of};
 ghost use Rattle.av1_tile.specs.TileBytes.{script_of, tile_report};
 ghost use Rattle.av1_unit.specs.Coded.{numbered, report_of, tiles_of, told_of};
 ghost use Rattle.av1_unit.specs.Findings.{first_refusal};

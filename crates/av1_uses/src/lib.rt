@@ -11,7 +11,7 @@ ghost use Rattle.std.specs.Prelude.{◌≡◌, ◌+◌, ◌^◌, ◌<◌, ◌≤
 ghost use Rattle.av1_cdf.specs.Context.{contents};
 ghost use Rattle.av1_cdf.specs.Slots.{slot_of};
 ghost use Rattle.av1_model.specs.Cdf.{IsCdf};
-ghost use Rattle.av1_tile.specs.State.{tile_of};
+ghost use Rattle.av1_step.specs.State.{tile_of};
 
 use av1_bits::{BitWriter, ULEB128Writer};
 use av1_cdf::{CDFContext, CDFContextLog, CDFOffset, Tables};
@@ -20,7 +20,7 @@ use av1_ec::{Writer, WriterEncoder, law_of_symbol_lengths};
 use av1_geometry::{BlockSize, ChromaSampling, OutOfMemory};
 use av1_unit::{
     FrameInvariants, FrameState, Item, Report, Sequence, TileScript, TileState, TileStep, Unit,
-    UnitError, Via, check_step, law_of_steps, law_of_trials, unit_bytes,
+    UnitError, Via, check_step, law_of_steps, law_of_trials, unit_bytes, write_item,
 };
 use std::alloc::Global;
 
@@ -126,7 +126,7 @@ pub fn cost_of_skip<W: Writer>(
         return Ok(None);
     }
     let mut marks = Vec::new(alloc);
-    state.write_item(alloc, w, &mut marks, &Item::Begin(place))?;
-    state.write_item(alloc, w, &mut marks, &Item::Step(step))?;
-    state.write_item(alloc, w, &mut marks, &Item::Abandon)
+    write_item(alloc, state, w, &mut marks, &Item::Begin(place))?;
+    write_item(alloc, state, w, &mut marks, &Item::Step(step))?;
+    write_item(alloc, state, w, &mut marks, &Item::Abandon)
 }

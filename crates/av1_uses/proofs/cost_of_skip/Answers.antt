@@ -4,14 +4,14 @@ use Rattle.std.proofs.lemmas.Bool.Decides.{nat_tests}
 use Rattle.av1_ec.specs.Rate.{tell_at}
 use Rattle.av1_geometry.specs.declared.block_offset.BlockOffset.{BlockOffset}
 use Rattle.av1_geometry.specs.declared.block_offset.TileBlockOffset.{TileBlockOffset}
-use Rattle.av1_tile.specs.declared.tile.TileState.{TileState}
-use Rattle.av1_tile.specs.declared.unit.Item.TheVariants.{Step, Begin, Keep, Abandon}
-use Rattle.av1_tile.specs.declared.unit.TileStep.{TileStep}
-use Rattle.av1_tile.specs.declared.unit.TileStep.TheVariants.{Skip}
-use Rattle.av1_tile.specs.Kind.{of_current}
-use Rattle.av1_tile.specs.State.{tile_of}
-use Rattle.av1_tile.specs.Step.{is_untried, skip_kind, step_fault}
-use Rattle.av1_tile.specs.Tile.{CurrentBlock, is_inside}
+use Rattle.av1_step.specs.declared.tile.TileState.{TileState}
+use Rattle.av1_step.specs.declared.unit.Item.TheVariants.{Step, Begin, Keep, Abandon}
+use Rattle.av1_step.specs.declared.step.TileStep.{TileStep}
+use Rattle.av1_step.specs.declared.step.TileStep.TheVariants.{Skip}
+use Rattle.av1_step.specs.Kind.{of_current}
+use Rattle.av1_step.specs.State.{tile_of}
+use Rattle.av1_step.specs.Step.{is_untried, skip_kind, step_fault}
+use Rattle.av1_step.specs.Tile.{CurrentBlock, is_inside}
 use Rattle.av1_tile.specs.Trials.{place_of, same_superblock}
 use Rattle.av1_uses.proofs.cost_of_skip.Goals as goal
 
@@ -81,11 +81,11 @@ write_item-requires-2-clause-item g c =
     ap (λ (k : ℕ). step_fault (tile_of old) k skip) (sym c.tell.ensures) ∙ sym c.check_step.ensures ∙ none_of c.check_step.result (sym c.is_some.ensures ∙ c.if-is_some.false) in
     let free : step_fault (tile_of old) ((g.W.Known.position w).shift + 1) skip ≡ None =
     c.law_of_steps.ensures.fewer_bits skip (tile_of old) (tell_at (g.W.Known.position w)) ((g.W.Known.position w).shift + 1) asked (omega arith) in
-    let now : step_fault (tile_of c.write_item.new.self) ((g.W.Known.position c.write_item.new.w).shift + 1) skip ≡ None = rw (took.tile, took.writer_is) free in
-    let there : place_of (Step skip) (tile_of c.write_item.new.self) ≡ Some place.0 =
+    let now : step_fault (tile_of c.write_item.new.state) ((g.W.Known.position c.write_item.new.w).shift + 1) skip ≡ None = rw (took.tile, took.writer_is) free in
+    let there : place_of (Step skip) (tile_of c.write_item.new.state) ≡ Some place.0 =
     ap (λ (s : TileState). place_of (Step skip) (tile_of s)) took.tile ∙ ap (λ (o : Option CurrentBlock). (of_current o Skip (skip_kind (tile_of old))).place) c.in-Some.is in
     record {
-      step = λ s e. let same : skip ≡ s = cc e in subst (λ (x : TileStep). step_fault (tile_of c.write_item.new.self) ((g.W.Known.position c.write_item.new.w).shift + 1) x ≡ None) same now;
+      step = λ s e. let same : skip ≡ s = cc e in subst (λ (x : TileStep). step_fault (tile_of c.write_item.new.state) ((g.W.Known.position c.write_item.new.w).shift + 1) x ≡ None) same now;
       begun = λ e. elim e [
         | inl k ↦ absurd (step_not_kept skip k)
         | inr a ↦ absurd (step_not_abandoned skip a)
@@ -103,15 +103,15 @@ returns-clause-tile g c =
     on_ok c.write_item-3.result _ _ c.write_item-3.ensures.took (λ answer ends.
     (c.law_of_trials.ensures c.in-Some.place (Step (Skip c.args.skip) ∷ [])
     (record { writer = c.args.w.now; tile = c.args.state.now; marks = c.new-marks.result.items })
-    (record { writer = c.write_item-3.new.w; tile = c.write_item-3.new.self; marks = c.write_item-3.new.marks.items })
+    (record { writer = c.write_item-3.new.w; tile = c.write_item-3.new.state; marks = c.write_item-3.new.marks.items })
     refl (
-      record { writer = c.write_item.new.w; tile = c.write_item.new.self; marks = c.write_item.new.marks.items },
+      record { writer = c.write_item.new.w; tile = c.write_item.new.state; marks = c.write_item.new.marks.items },
       (c.in_ok-write_item.field-0, c.in_ok-write_item.ensures.took),
       (
-        record { writer = c.write_item-2.new.w; tile = c.write_item-2.new.self; marks = c.write_item-2.new.marks.items },
+        record { writer = c.write_item-2.new.w; tile = c.write_item-2.new.state; marks = c.write_item-2.new.marks.items },
         (c.in_ok-write_item-2.field-0, c.in_ok-write_item-2.ensures.took),
         (
-          record { writer = c.write_item-3.new.w; tile = c.write_item-3.new.self; marks = c.write_item-3.new.marks.items },
+          record { writer = c.write_item-3.new.w; tile = c.write_item-3.new.state; marks = c.write_item-3.new.marks.items },
           (answer, ends),
           refl,
         ),
@@ -123,15 +123,15 @@ returns-clause-writer g c =
     on_ok c.write_item-3.result _ _ c.write_item-3.ensures.took (λ answer ends.
     (c.law_of_trials.ensures c.in-Some.place (Step (Skip c.args.skip) ∷ [])
     (record { writer = c.args.w.now; tile = c.args.state.now; marks = c.new-marks.result.items })
-    (record { writer = c.write_item-3.new.w; tile = c.write_item-3.new.self; marks = c.write_item-3.new.marks.items })
+    (record { writer = c.write_item-3.new.w; tile = c.write_item-3.new.state; marks = c.write_item-3.new.marks.items })
     refl (
-      record { writer = c.write_item.new.w; tile = c.write_item.new.self; marks = c.write_item.new.marks.items },
+      record { writer = c.write_item.new.w; tile = c.write_item.new.state; marks = c.write_item.new.marks.items },
       (c.in_ok-write_item.field-0, c.in_ok-write_item.ensures.took),
       (
-        record { writer = c.write_item-2.new.w; tile = c.write_item-2.new.self; marks = c.write_item-2.new.marks.items },
+        record { writer = c.write_item-2.new.w; tile = c.write_item-2.new.state; marks = c.write_item-2.new.marks.items },
         (c.in_ok-write_item-2.field-0, c.in_ok-write_item-2.ensures.took),
         (
-          record { writer = c.write_item-3.new.w; tile = c.write_item-3.new.self; marks = c.write_item-3.new.marks.items },
+          record { writer = c.write_item-3.new.w; tile = c.write_item-3.new.state; marks = c.write_item-3.new.marks.items },
           (answer, ends),
           refl,
         ),

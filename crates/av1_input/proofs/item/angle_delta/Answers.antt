@@ -1,7 +1,7 @@
 use Rattle.std.proofs.Common.{ℤ, pos, ap, w8}
 use Rattle.std.proofs.lemmas.Int.{to_z-of_z}
-use Rattle.av1_tile.specs.declared.unit.Item.TheVariants.{Step}
-use Rattle.av1_tile.specs.declared.unit.TileStep.TheVariants.{AngleDelta}
+use Rattle.av1_step.specs.declared.unit.Item.TheVariants.{Step}
+use Rattle.av1_step.specs.declared.step.TileStep.TheVariants.{AngleDelta}
 use Rattle.av1_input.specs.Item.{angle_delta, angle_delta_rows, nothing}
 use Rattle.av1_input.specs.Rows.{closed}
 use Rattle.av1_input.proofs.Rows.{computed, here, rest, ◌▸◌}

@@ -1,5 +1,5 @@
 use Rattle.std.proofs.Common.{subst}
-use Rattle.av1_tile.specs.declared.unit.TileStep.{TileStep}
+use Rattle.av1_step.specs.declared.step.TileStep.{TileStep}
 use Rattle.av1_make.specs.Blocks.{predicted}
 use Rattle.av1_make.specs.Draws.{Makes, step}
 use Rattle.av1_make.proofs.Making.{then_makes}

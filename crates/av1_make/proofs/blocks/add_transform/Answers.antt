@@ -1,6 +1,6 @@
 use Rattle.std.proofs.Common.{ℤ, List, subst}
 use Rattle.std.specs.Prelude.{OnOk}
-use Rattle.av1_tile.specs.declared.unit.TileStep.TheVariants.{Coeffs}
+use Rattle.av1_step.specs.declared.step.TileStep.TheVariants.{Coeffs}
 use Rattle.av1_make.specs.Blocks.{transform}
 use Rattle.av1_make.specs.Draws.{Makes, step}
 use Rattle.av1_make.proofs.Making.{then_all_drawn, then_drawn}

@@ -1,6 +1,6 @@
 use Rattle.std.proofs.Common.{◌≡◌, true, false, subst, sym, ◌∙◌}
-use Rattle.av1_tile.specs.AngleSteps.{is_directional}
-use Rattle.av1_tile.specs.declared.unit.TileStep.{TileStep}
+use Rattle.av1_step.specs.AngleSteps.{is_directional}
+use Rattle.av1_step.specs.declared.step.TileStep.{TileStep}
 use Rattle.av1_make.specs.Blocks.{turned}
 use Rattle.av1_make.specs.Draws.{Makes, step}
 use Rattle.av1_make.proofs.Making.{makes_drawn, makes_nothing}

@@ -1,7 +1,7 @@
 use Rattle.std.proofs.Common.{◌≡◌, ◌<◌, Bool, true, false, arith, subst, sym, ◌∙◌}
 use Rattle.av1_geometry.specs.declared.block_size.BlockSize.{BlockSize}
 use Rattle.av1_geometry.specs.declared.partition_type.PartitionType.TheVariants.{PARTITION_SPLIT}
-use Rattle.av1_tile.specs.declared.unit.TileStep.TheVariants.{Partition}
+use Rattle.av1_step.specs.declared.step.TileStep.TheVariants.{Partition}
 use Rattle.av1_make.specs.Draws.{Makes, step}
 use Rattle.av1_make.specs.Tree.{Chooses, is_inside, split}
 use Rattle.av1_make.proofs.Making.{leaf_parted, split_parted, then_makes, then_parted}

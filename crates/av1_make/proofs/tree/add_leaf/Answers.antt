@@ -2,7 +2,7 @@ use Rattle.std.proofs.Common.{subst}
 use Rattle.std.specs.Prelude.{OnOk}
 use Rattle.av1_geometry.specs.declared.block_size.BlockSize.{BlockSize}
 use Rattle.av1_geometry.specs.declared.partition_type.PartitionType.TheVariants.{PARTITION_NONE}
-use Rattle.av1_tile.specs.declared.unit.TileStep.TheVariants.{Partition}
+use Rattle.av1_step.specs.declared.step.TileStep.TheVariants.{Partition}
 use Rattle.av1_make.specs.Blocks.{block}
 use Rattle.av1_make.specs.Draws.{Makes, step}
 use Rattle.av1_make.specs.Tree.{leaf}

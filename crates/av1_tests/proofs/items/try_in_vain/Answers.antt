@@ -1,5 +1,5 @@
 use Rattle.std.proofs.Common.{IsTrue, [], ◌∷◌, refl, rules}
-use Rattle.av1_tile.specs.declared.unit.Item.TheVariants.{Step, Begin, Abandon}
+use Rattle.av1_step.specs.declared.unit.Item.TheVariants.{Step, Begin, Abandon}
 use Rattle.av1_tests.proofs.items.try_in_vain.Goals as goal
 
 pub returns : goal.returns

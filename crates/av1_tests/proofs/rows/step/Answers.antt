@@ -1,5 +1,5 @@
 use Rattle.std.proofs.Common.{◌+◌, sym, ◌∙◌, arith}
-use Rattle.av1_tile.specs.State.{tile_of}
+use Rattle.av1_step.specs.State.{tile_of}
 use Rattle.av1_tests.proofs.rows.step.Goals as goal
 
 pub write_step-requires : goal.write_step-requires

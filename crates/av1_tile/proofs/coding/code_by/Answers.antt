@@ -1,10 +1,12 @@
 use Rattle.std.proofs.lemmas.List.{get_or_default}
 use Rattle.std.proofs.Common.{[], rules, refl, ◌≡◌, ◌⊎◌, Some, Err, inl, inr, ◌∙◌}
-use Rattle.av1_tile.specs.Given.{given_of}
-use Rattle.av1_tile.specs.TileBytes.{started, begin, script_of, wrong_in}
+use Rattle.av1_step.specs.Given.{given_of}
+use Rattle.av1_step.specs.Script.{begin}
+use Rattle.av1_tile.specs.TileBytes.{started, script_of, wrong_in}
 use Rattle.av1_tile.specs.declared.error.UnitError.TheVariants.{OutOfMemory}
 use Rattle.av1_cdf.proofs.Learning.{cdfs_of_tables}
-use Rattle.av1_tile.proofs.Fresh.{fresh_sound, fresh_stands}
+use Rattle.av1_step.proofs.Fresh.{fresh_sound}
+use Rattle.av1_tile.proofs.Starting.{fresh_stands}
 use Rattle.av1_tile.proofs.Coming.{costs_all}
 use Rattle.av1_tile.proofs.coding.code_by.Goals as goal
 

@@ -3,7 +3,7 @@ use Rattle.av1_model.specs.Interval.{final_bytes}
 use Rattle.av1_model.specs.Position.{Position, interval_of}
 use Rattle.av1_model.proofs.Costs.{log_below}
 use Rattle.av1_model.proofs.Final.{length-final_bytes}
-use Rattle.av1_tile.specs.Given.{given_of}
+use Rattle.av1_step.specs.Given.{given_of}
 use Rattle.av1_tile.specs.TileBytes.{ending, script_of}
 use Rattle.av1_tile.proofs.coding.code_tile.Goals as goal
 

@@ -1,4 +1,4 @@
-use Rattle.av1_tile.specs.Given.{broken_scan_rule}
+use Rattle.av1_step.specs.Given.{broken_scan_rule}
 use Rattle.av1_unit.proofs.check.broken_scan_rule.Goals as goal
 
 pub returns : goal.returns

@@ -4,7 +4,7 @@ use Rattle.av1_frame.specs.FrameRules.{frame_rules}
 use Rattle.av1_frame.specs.SequenceRules.{sequence_rules}
 use Rattle.av1_tile.specs.declared.error.Place.TheVariants as places
 use Rattle.av1_tile.specs.declared.error.UnitError.TheVariants.{Refused}
-use Rattle.av1_tile.proofs.Places.{is_cut}
+use Rattle.av1_step.proofs.Places.{is_cut}
 use Rattle.av1_unit.specs.Findings.{broken_at, scans_wrong, script_rules}
 use Rattle.av1_unit.specs.Plain.{plain}
 use Rattle.av1_unit.proofs.Before.{at_frame, at_messages, at_scans, at_scripts, at_sequence, at_tables, finds_at, found_checked, past_frame, past_messages, past_scans, past_sequence, past_tables}

@@ -2,7 +2,7 @@ use Rattle.std.proofs.Common.{◌++◌, Bool, List, sym, ◌∙◌, ap}
 use Rattle.av1_header.specs.FrameHeader.{header_of}
 use Rattle.av1_model.specs.Bits.{byte_aligned}
 use Rattle.av1_model.specs.WholeBytes.{to_bytes}
-use Rattle.av1_tile.specs.Given.{given_of}
+use Rattle.av1_step.specs.Given.{given_of}
 use Rattle.av1_unit.specs.Framing.{bits_of_rows, frame_header, frame_with}
 use Rattle.av1_unit.proofs.Headers.{frame_fits, shows_itself}
 use Rattle.av1_unit.proofs.framing.frame_header.Goals as goal

@@ -1,6 +1,6 @@
 use Rattle.std.proofs.Common.{◌++◌, List, ℕ, ap, ◌∙◌, subst}
 use Rattle.av1_header.specs.FrameHeader.{header_of}
-use Rattle.av1_tile.specs.Given.{given_of}
+use Rattle.av1_step.specs.Given.{given_of}
 use Rattle.av1_unit.specs.Framing.{frame_header, frame_payload, frame_with, tile_group}
 use Rattle.av1_unit.specs.HeaderReading.{BeginWith}
 use Rattle.av1_unit.proofs.HeaderBytes.{rows_read}

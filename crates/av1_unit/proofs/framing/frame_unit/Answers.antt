@@ -1,6 +1,6 @@
 use Rattle.std.proofs.Common.{◌≡◌, ◌++◌, ◌<◌, ◌^◌, List, ℕ, length, sym, ap, ◌∙◌, subst}
 use Rattle.av1_frame.specs.declared.obu.ObuType.TheVariants.{OBU_FRAME}
-use Rattle.av1_tile.specs.Given.{given_of}
+use Rattle.av1_step.specs.Given.{given_of}
 use Rattle.av1_unit.specs.Framing.{bytes_of_obus, delimiter_obus, frame_payload, message_obus, sequence_obus, size_bytes, with_payload}
 use Rattle.av1_unit.proofs.ObuLengths.{framed_parts, short_frame, short_sequence}
 use Rattle.av1_unit.proofs.framing.frame_unit.Goals as goal

@@ -2,7 +2,7 @@ use Rattle.std.proofs.Common.{◌≡◌, ◌++◌, [], ◌∷◌, Bool, List, tr
 use Rattle.av1_header.specs.SequenceHeader.{sequence_header}
 use Rattle.av1_model.specs.Bits.{byte_aligned}
 use Rattle.av1_model.specs.WholeBytes.{to_bytes}
-use Rattle.av1_tile.specs.Given.{given_of}
+use Rattle.av1_step.specs.Given.{given_of}
 use Rattle.av1_unit.specs.Framing.{bits_of_rows, sequence_payload}
 use Rattle.av1_unit.proofs.HeaderBytes.{only_header_read}
 use Rattle.av1_unit.proofs.Headers.{sequence_fits}

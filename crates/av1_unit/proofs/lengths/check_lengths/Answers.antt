@@ -1,5 +1,5 @@
 use Rattle.std.proofs.Common.{◌≡◌, Err, inl, inr, rules}
-use Rattle.av1_tile.specs.Given.{given_of}
+use Rattle.av1_step.specs.Given.{given_of}
 use Rattle.av1_unit.proofs.ObuLengths.{found_frame, long_sequence}
 use Rattle.av1_unit.proofs.lengths.check_lengths.Goals as goal
 

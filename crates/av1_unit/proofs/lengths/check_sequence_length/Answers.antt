@@ -1,5 +1,5 @@
 use Rattle.std.proofs.Common.{◌≡◌, ◌∙◌, List, ℕ, sym, ap, subst, length, rules}
-use Rattle.av1_tile.specs.Given.{given_of}
+use Rattle.av1_step.specs.Given.{given_of}
 use Rattle.av1_unit.specs.Findings.{length_wrong, Finds}
 use Rattle.av1_unit.specs.Framing.{sequence_payload}
 use Rattle.av1_unit.specs.Lengths.{count_of}

@@ -1,5 +1,5 @@
 use Rattle.std.proofs.Common.{◌≡◌, ◌+◌, ◌∙◌, List, ℕ, sym, ap, length, rules}
-use Rattle.av1_tile.specs.Given.{given_of}
+use Rattle.av1_step.specs.Given.{given_of}
 use Rattle.av1_unit.specs.Framing.{frame_header}
 use Rattle.av1_unit.proofs.TileSizes.{frame_told}
 use Rattle.av1_unit.proofs.lengths.frame_len.Goals as goal

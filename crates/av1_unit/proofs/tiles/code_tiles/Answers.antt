@@ -1,7 +1,7 @@
 use Rattle.std.proofs.Common.{◌≡◌, ◌+◌, ◌<◌, ◌∷◌, ◌++◌, [], List, ℕ, Err, inl, inr, refl, sym, ◌∙◌, ap, arith, rules, length}
 use Rattle.av1_tile.specs.declared.report.TileReport.{TileReport}
 use Rattle.av1_tile.specs.declared.report.TrialCost.{TrialCost}
-use Rattle.av1_tile.specs.Given.{given_of}
+use Rattle.av1_step.specs.Given.{given_of}
 use Rattle.av1_tile.specs.TileBytes.{script_of, tile_report}
 use Rattle.av1_unit.proofs.Scripts.{coded_more, coded_none, no_scripts, right_script, wrong_script}
 use Rattle.av1_unit.proofs.tiles.code_tiles.Goals as goal

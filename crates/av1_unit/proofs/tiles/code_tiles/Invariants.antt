@@ -1,5 +1,5 @@
 use Rattle.std.proofs.Common.{◌≡◌, None}
-use Rattle.av1_tile.specs.Given.{given_of}
+use Rattle.av1_step.specs.Given.{given_of}
 use Rattle.av1_unit.specs.Findings.{scripts_wrong}
 use Rattle.av1_unit.specs.Tiles.{coded_of}
 use Rattle.av1_unit.proofs.Scripts.{first}

@@ -1,5 +1,5 @@
 use Rattle.std.proofs.Common.{arith}
-use Rattle.av1_tile.specs.Given.{given_of}
+use Rattle.av1_step.specs.Given.{given_of}
 use Rattle.av1_tile.specs.TileBytes.{script_of}
 use Rattle.av1_unit.proofs.TileLaws.{told_report}
 use Rattle.av1_unit.proofs.tiles.count_one.Goals as goal

@@ -1,6 +1,6 @@
 use Rattle.std.proofs.Common.{◌≡◌, ◌+◌, ◌<◌, ◌∷◌, ◌++◌, [], Err, inl, inr, refl, sym, ◌∙◌, ap, arith, rules, length}
 use Rattle.av1_tile.specs.declared.report.TileReport.{TileReport}
-use Rattle.av1_tile.specs.Given.{given_of}
+use Rattle.av1_step.specs.Given.{given_of}
 use Rattle.av1_unit.specs.Coded.{told_of}
 use Rattle.av1_unit.proofs.Scripts.{first, none_told, no_scripts, right_script, told_more, wrong_script}
 use Rattle.av1_unit.proofs.tiles.count_tiles.Goals as goal

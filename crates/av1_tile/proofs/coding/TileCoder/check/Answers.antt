@@ -1,6 +1,6 @@
 use Rattle.std.proofs.Common.{ap, sym, ◌∙◌, Some}
 use Rattle.av1_tile.specs.declared.error.UnitError.TheVariants.{BadScript}
-use Rattle.av1_tile.specs.Tile.{Tile}
+use Rattle.av1_step.specs.Tile.{Tile}
 use Rattle.av1_tile.specs.Trials.{error_of}
 use Rattle.av1_tile.proofs.Standing.{wrong_place, wrong_item}
 use Rattle.av1_tile.proofs.coding.TileCoder.check.Goals as goal

@@ -1,9 +1,9 @@
 use Rattle.std.proofs.Common.{ℕ, sym, ◌∙◌, ap}
 use Rattle.av1_model.specs.Interval.{bits}
-use Rattle.av1_tile.specs.declared.unit.Item.{Item}
-use Rattle.av1_tile.specs.State.{tile_of}
-use Rattle.av1_tile.specs.Step.{step_fault}
-use Rattle.av1_tile.specs.Tile.{Tile}
+use Rattle.av1_step.specs.declared.unit.Item.{Item}
+use Rattle.av1_step.specs.State.{tile_of}
+use Rattle.av1_step.specs.Step.{step_fault}
+use Rattle.av1_step.specs.Tile.{Tile}
 use Rattle.av1_tile.specs.Trials.{item_fault}
 use Rattle.av1_tile.proofs.Coded.{told_bits}
 use Rattle.av1_tile.proofs.coding.TileCoder.check_item.Goals as goal

@@ -2,7 +2,7 @@ use Rattle.std.proofs.Common.{subst, sym, ◌<◌, ◌∷◌, List, Some, length
 use Rattle.std.proofs.lemmas.List.{take_all}
 use Rattle.av1_model.specs.Position.{Position}
 use Rattle.av1_tile.specs.declared.error.UnitError.TheVariants.{OutOfMemory}
-use Rattle.av1_tile.specs.declared.unit.Item.{Item}
+use Rattle.av1_step.specs.declared.unit.Item.{Item}
 use Rattle.av1_tile.specs.Trials.{Progress, moved_all, first_wrong}
 use Rattle.av1_tile.specs.Coder.{HasTaken}
 use Rattle.av1_tile.proofs.Coming.{come_more, ended_right, ended_wrong, wrong_here}

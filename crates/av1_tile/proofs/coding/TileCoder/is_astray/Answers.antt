@@ -1,7 +1,7 @@
 use Rattle.std.proofs.Common.{Option, sym, ◌∙◌, ap}
 use Rattle.av1_geometry.specs.declared.block_offset.BlockOffset.{BlockOffset}
-use Rattle.av1_tile.specs.declared.unit.Item.TheVariants.{Step}
-use Rattle.av1_tile.specs.Tile.{Tile}
+use Rattle.av1_step.specs.declared.unit.Item.TheVariants.{Step}
+use Rattle.av1_step.specs.Tile.{Tile}
 use Rattle.av1_tile.specs.Trials.{place_of, strays}
 use Rattle.av1_tile.proofs.Standing.{strays_none}
 use Rattle.av1_tile.proofs.coding.TileCoder.is_astray.Goals as goal

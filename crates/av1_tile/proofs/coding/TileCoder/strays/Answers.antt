@@ -1,5 +1,5 @@
 use Rattle.std.proofs.Common.{List, sym, ◌∙◌, subst}
-use Rattle.av1_tile.specs.declared.trial.TrialMark.{TrialMark}
+use Rattle.av1_step.specs.declared.trial.TrialMark.{TrialMark}
 use Rattle.av1_tile.specs.Coder.{MarksAre}
 use Rattle.av1_tile.proofs.Marks.{ends_in}
 use Rattle.av1_tile.proofs.Standing.{strays_is}

@@ -1,14 +1,14 @@
 use Rattle.std.proofs.Common.{◌≡◌, ℕ, List, None, Ok, length, refl, sym, ◌∙◌, ap, subst}
 use Rattle.av1_model.specs.Interval.{bits}
-use Rattle.av1_tile.specs.declared.trial.TrialMark.{TrialMark}
-use Rattle.av1_tile.specs.declared.unit.Item.{Item}
+use Rattle.av1_step.specs.declared.trial.TrialMark.{TrialMark}
+use Rattle.av1_step.specs.declared.unit.Item.{Item}
 use Rattle.av1_tile.specs.Coder.{StandsAt, begun_of, all_costs, unknown_cost}
-use Rattle.av1_tile.specs.State.{tile_of}
-use Rattle.av1_tile.specs.Step.{step_fault}
-use Rattle.av1_tile.specs.Tile.{Tile}
+use Rattle.av1_step.specs.State.{tile_of}
+use Rattle.av1_step.specs.Step.{step_fault}
+use Rattle.av1_step.specs.Tile.{Tile}
 use Rattle.av1_tile.specs.Trials.{item_fault}
 use Rattle.av1_tile.proofs.Standing.{can_come, stepped, begun, at_end, kept_end, undone_end}
-use Rattle.av1_tile.proofs.StepLaws.{IsAllowed, faultless}
+use Rattle.av1_step.proofs.StepLaws.{IsAllowed, faultless}
 use Rattle.av1_tile.proofs.coding.TileCoder.take.Goals as goal
 
 pub write_item-requires-clause-item : goal.write_item-requires-clause-item
@@ -31,7 +31,7 @@ returns-in-Step g c start p s =
     let allowed : IsAllowed step (tile_of old) = subst (λ (t : Tile). IsAllowed step t) (sym s.tile_is) f.1 in
     let took = rw (c.in-Step.is) at e.took in
     rw (c.in-Step.is)
-    (stepped g.W.Known start (Ok answer) answer refl old c.write_item.new.self c.args.self.now.writer c.write_item.new.w c.args.self.now.marks.items c.write_item.new.marks.items c.args.self.now.costs.begun.items c.args.self.now.costs.all.items p step s allowed f.0 took e.marks)
+    (stepped g.W.Known start (Ok answer) answer refl old c.write_item.new.state c.args.self.now.writer c.write_item.new.w c.args.self.now.marks.items c.write_item.new.marks.items c.args.self.now.costs.begun.items c.args.self.now.costs.all.items p step s allowed f.0 took e.marks)
 
 pub returns-in_ok-begin-in-Begin : goal.returns-in_ok-begin-in-Begin
 returns-in_ok-begin-in-Begin g c start p s =
@@ -39,7 +39,7 @@ returns-in_ok-begin-in-Begin g c start p s =
     let answer = c.in_ok-answer.answer in
     let took = rw (c.in-Begin.is) at e.took in
     rw (c.in-Begin.is, c.in_ok-begin-in-Begin.ensures.begun, c.in_ok-begin-in-Begin.ensures.all, c.number-tile.ensures)
-    (begun g.W.Known start (Ok answer) answer refl c.args.n c.args.self.now.tile c.write_item.new.self c.args.self.now.writer c.write_item.new.w c.args.self.now.marks.items c.write_item.new.marks.items c.args.self.now.costs.begun.items c.args.self.now.costs.all.items c.in-Begin.field-0 p s took e.marks)
+    (begun g.W.Known start (Ok answer) answer refl c.args.n c.args.self.now.tile c.write_item.new.state c.args.self.now.writer c.write_item.new.w c.args.self.now.marks.items c.write_item.new.marks.items c.args.self.now.costs.begun.items c.args.self.now.costs.all.items c.in-Begin.field-0 p s took e.marks)
 
 pub returns-in-Keep : goal.returns-in-Keep
 returns-in-Keep g c start p s =
@@ -57,7 +57,7 @@ returns-in-Keep g c start p s =
     let trial = length (all_costs r.1 p.costs) in
     let d = unknown_cost r.0 in
     rw (c.in-Keep.is, c.end.ensures.begun outer trial r.3, c.end.ensures.all outer trial d r.3, c.unwrap_or-eighths.ensures)
-    (kept_end g.W.Known start old c.write_item.new.self w c.write_item.new.w marks left outer trial all answer p (subst (λ (l : List ℕ). StandsAt g.W.Known start old w marks l all p) r.3 s) took e.marks d)
+    (kept_end g.W.Known start old c.write_item.new.state w c.write_item.new.w marks left outer trial all answer p (subst (λ (l : List ℕ). StandsAt g.W.Known start old w marks l all p) r.3 s) took e.marks d)
 
 pub returns-in-Abandon : goal.returns-in-Abandon
 returns-in-Abandon g c start p s =
@@ -75,4 +75,4 @@ returns-in-Abandon g c start p s =
     let trial = length (all_costs r.1 p.costs) in
     let d = unknown_cost r.0 in
     rw (c.in-Abandon.is, c.end-in-Abandon.ensures.begun outer trial r.3, c.end-in-Abandon.ensures.all outer trial d r.3, c.unwrap_or-eighths.ensures)
-    (undone_end g.W.Known start old c.write_item.new.self w c.write_item.new.w marks left outer trial all answer p (subst (λ (l : List ℕ). StandsAt g.W.Known start old w marks l all p) r.3 s) took e.marks d)
+    (undone_end g.W.Known start old c.write_item.new.state w c.write_item.new.w marks left outer trial all answer p (subst (λ (l : List ℕ). StandsAt g.W.Known start old w marks l all p) r.3 s) took e.marks d)
