@@ -10,19 +10,20 @@ use Rattle.av1_coef.specs.Scans.{each_once, is_in}
 use Rattle.av1_syntax.proofs.CoeffKnown.{in_take, not_before}
 use Rattle.av1_syntax.specs.Coefficients.{levels_at, value_at}
 
--- the coefficients at the first positions of a scan are so many first levels, and all others are 0
-pub record ArePlaced (levels : List ℤ) (scan : List ℕ) (i : ℕ) (values : List ℤ) : Type 0 where
-  pub long : length values ≡ 1024
+-- n coefficients, of which those at the first positions of a scan are so many first levels, and all others are 0
+pub record ArePlaced (n : ℕ) (levels : List ℤ) (scan : List ℕ) (i : ℕ) (values : List ℤ) : Type 0 where
+  pub long : length values ≡ n
   pub levels_are : levels_at values scan i ≡ take i levels
   pub none : (p : ℕ) → is_in (take i scan) p ≡ false → value_at values p ≡ pos 0
 
-zero_at : (n p : ℕ) → slice_index_or (replicate n (pos 0)) p (pos 0) ≡ pos 0
+-- an array of zeros
+pub zero_at : (n p : ℕ) → value_at (replicate n (pos 0)) p ≡ pos 0
 zero_at zero p = refl
 zero_at (suc n) zero = refl
 zero_at (suc n) (suc p) = zero_at n p
 
-pub placed_none : (levels : List ℤ) (scan : List ℕ) → ArePlaced levels scan 0 (replicate 1024 (pos 0))
-placed_none levels scan = record { long = length-replicate {A = ℤ} 1024 (pos 0); levels_are = refl; none = λ p h. zero_at 1024 p }
+pub placed_none : (values levels : List ℤ) (scan : List ℕ) → ((p : ℕ) → value_at values p ≡ pos 0) → ArePlaced (length values) levels scan 0 values
+placed_none values levels scan zeros = record { long = refl; levels_are = refl; none = λ p h. zeros p }
 
 -- two functions that agree on the positions of a list
 map_alike : (f g : ℕ → ℤ) (ps : List ℕ) → ((p : ℕ) → is_in ps p ≡ true → f p ≡ g p) → map f ps ≡ map g ps
@@ -45,13 +46,13 @@ not_same : (p q : ℕ) (ps : List ℕ) → is_in ps p ≡ true → is_in ps q �
 not_same p q ps h g e = false_true g (subst (λ n. is_in ps n ≡ true) e h)
 
 -- one level more is placed
-pub placed_more : (levels : List ℤ) (scan : List ℕ) (i p : ℕ) (level : ℤ) (values : List ℤ) → each_once 1024 scan ≡ true → i < length levels → i < length scan → p ≡ slice_index scan i → level ≡ slice_index_or levels i (pos 0) →
-    ArePlaced levels scan i values → ArePlaced levels scan (i + 1) (set values p level)
-placed_more levels scan i p level values once some within at is were =
+pub placed_more : (n : ℕ) (levels : List ℤ) (scan : List ℕ) (i p : ℕ) (level : ℤ) (values : List ℤ) → each_once n scan ≡ true → i < length levels → i < length scan → p ≡ slice_index scan i → level ≡ slice_index_or levels i (pos 0) →
+    ArePlaced n levels scan i values → ArePlaced n levels scan (i + 1) (set values p level)
+placed_more n levels scan i p level values once some within at is were =
     let new = set values p level in
     let q = slice_index scan i in
-    let below : p < length values = omega (arith, at, were.long, once_below 1024 scan i once within) in
-    let first : is_in (take i scan) q ≡ false = not_before 1024 scan i q once (next_in scan i within) in
+    let below : p < length values = omega (arith, at, were.long, once_below n scan i once within) in
+    let first : is_in (take i scan) q ≡ false = not_before n scan i q once (next_in scan i within) in
     let other : (r : ℕ) → (r ≡ q → ⊥) → value_at new r ≡ value_at values r = λ r n. get_or-set_other values p r level (pos 0) (λ e. n (e ∙ at)) in
     let before : levels_at new scan i ≡ levels_at values scan i = map_alike (value_at new) (value_at values) (take i scan) (λ r h. other r (not_same r q (take i scan) h first)) in
     let here : value_at new q ≡ slice_index_or levels i (pos 0) = ap (λ n. value_at new n) (sym at) ∙ get_or-set_same values p level (pos 0) below ∙ is in

@@ -1,5 +1,5 @@
 -- The coefficients of a transform block are checked and written.
-use Rattle.std.proofs.Common.{◌≡◌, ℕ, zero, suc, ◌+◌, ◌-◌, ◌/◌, ◌%◌, ◌^◌, ◌<◌, ◌≤◌, ◌||◌, ◌&&◌, ◌==◌, not, List, [], ◌∷◌, ◌++◌, Bool, true, false, Option, Some, None, Result, Ok, Err, is_none, is_some, OnOk, OnErr, IsErr, unsigned_abs, length, map, take, slice_index_or, ℤ, pos, refl, sym, ap, subst, ◌∙◌, arith, inl, inr, ◌⊎◌, IsTrue, nat_eq}
+use Rattle.std.proofs.Common.{◌≡◌, ℕ, zero, suc, ◌+◌, ◌-◌, ◌/◌, ◌%◌, ◌^◌, ◌<◌, ◌≤◌, ◌||◌, ◌&&◌, ◌==◌, not, List, [], ◌∷◌, ◌++◌, Bool, true, false, Option, Some, None, Result, Ok, Err, is_none, is_some, IfSome, OnOk, OnErr, IsErr, unsigned_abs, length, map, take, slice_index_or, ℤ, pos, refl, sym, ap, subst, ◌∙◌, arith, inl, inr, ◌⊎◌, IsTrue, nat_eq}
 use Rattle.std.proofs.lemmas.Bool.Decides.{nat_tests}
 use Rattle.av1_blocks.proofs.GoingBack.{halved_once, one_or_two}
 use Rattle.av1_blocks.specs.Edges.{with_coefficients}
@@ -111,6 +111,10 @@ pub err_is : {U E : Type 0} (r : Result U E) → IsErr r → (e : E) × (r ≡ E
 err_is (Ok v) h = absurd cc
 err_is (Err e) h = (e, refl)
 
+-- an array that has room for the current block's transform
+pub room_is : (P : CurrentBlock → Type 0) (o : Option CurrentBlock) (b : CurrentBlock) → o ≡ Some b → IfSome o P → P b
+room_is P o b is h = subst (λ (c : Option CurrentBlock). IfSome c P) is h
+
 -- levels that were laid out, by the names of a call
 pub laid_is : (values from levels : List ℤ) (positions scan : List ℕ) (n : ℕ) → levels_at values positions (length from) ≡ from → from ≡ levels → positions ≡ scan → n ≡ length levels → levels_at (map (λ x. x) values) scan n ≡ levels
 laid_is values from levels positions scan n laid same there count =
@@ -180,7 +184,7 @@ module _ (plane x y : ℕ) (given : TxType) (levels : List ℤ) where
       second false b e g = g
 
   -- coefficients by position that have these levels
-  pub coded_are : (t : Tile) (b : CurrentBlock) (values : List ℤ) → IsKept t → holds (coeffs_answering t (Some b) plane given levels) ≡ true → length values ≡ 1024 →
+  pub coded_are : (t : Tile) (b : CurrentBlock) (values : List ℤ) → IsKept t → holds (coeffs_answering t (Some b) plane given levels) ≡ true → coded_area (tx_in t plane b) ≤ length values →
       let size = tx_in t plane b in
       let scan = scan_of t.given.scans size (class_of given) in
       levels_at values scan (length levels) ≡ levels → ((p : ℕ) → is_in (take (length levels) scan) p ≡ false → value_at values p ≡ pos 0) → AreCoded size (class_of given) scan (length levels) values
@@ -190,7 +194,7 @@ module _ (plane x y : ℕ) (given : TxType) (levels : List ℤ) where
       let are = answer_levels t b plane given levels h in
       record {
         order = passing_scan t.given.scans size (class_of given) k.given.scans;
-        area = omega (arith, long, area_few size);
+        area = long;
         few = are.few;
         levels = subst (λ (l : List ℤ). AreLevels (coded_area size) l) (sym same) are;
         none = none;
@@ -198,7 +202,7 @@ module _ (plane x y : ℕ) (given : TxType) (levels : List ℤ) where
 
   -- the scan of its transform has each position once, and at least as many as there are levels
   pub scan_is : (t : Tile) (b : CurrentBlock) → IsKept t → holds (coeffs_answering t (Some b) plane given levels) ≡ true → let scan = scan_of t.given.scans (tx_in t plane b) (class_of given) in
-      (each_once 1024 scan ≡ true) × (length levels ≤ length scan)
+      (each_once (coded_area (tx_in t plane b)) scan ≡ true) × (length levels ≤ length scan)
   unfolding broken_scan_rule
   scan_is t b k h =
       let size = tx_in t plane b in
@@ -206,7 +210,7 @@ module _ (plane x y : ℕ) (given : TxType) (levels : List ℤ) where
       let order = passing_scan t.given.scans size (class_of given) k.given.scans in
       let kept = scan_keeps size (class_of given) scan order in
       let once = both_pass (each_once (coded_area size) scan) (all_there (coded_area size) scan) kept.0 in
-      (once_within (coded_area size) 1024 scan (area_few size) once.0, omega (arith, (answer_levels t b plane given levels h).few, scan_long size (class_of given) scan order))
+      (once.0, omega (arith, (answer_levels t b plane given levels h).few, scan_long size (class_of given) scan order))
 
   -- what the call of the element asks for, of what it is given
   module _ (t : Tile) (b : CurrentBlock) (of : TransformBlock) (k : IsKept t) (current : t.current ≡ Some b) (allowed : IsAllowed (Coeffs plane x y given levels) t) where
@@ -225,8 +229,13 @@ module _ (plane x y : ℕ) (given : TxType) (levels : List ℤ) where
     pub call_type : of ≡ transform_of t b plane place → HasType plane of.tx_size of.mode t.given.fi.use_reduced_tx_set (length levels) given
     call_type is = subst (λ (o : TransformBlock). HasType plane o.tx_size o.mode t.given.fi.use_reduced_tx_set (length levels) given) (sym is) (type_fits t b (allowed_is t b current allowed).1)
 
-    pub call_scan : of ≡ transform_of t b plane place → let scan = scan_of t.given.scans of.tx_size (class_of given) in (each_once 1024 scan ≡ true) × (length levels ≤ length scan)
-    call_scan is = subst (λ (o : TransformBlock). let scan = scan_of t.given.scans o.tx_size (class_of given) in (each_once 1024 scan ≡ true) × (length levels ≤ length scan)) (sym is) (scan_is t b k (allowed_is t b current allowed).1)
+    pub call_scan : of ≡ transform_of t b plane place → (n : ℕ) → coded_area (tx_in t plane b) ≤ n →
+        let scan = scan_of t.given.scans of.tx_size (class_of given) in (each_once n scan ≡ true) × (length levels ≤ length scan)
+    call_scan is n room =
+        let scan = scan_is t b k (allowed_is t b current allowed).1 in
+        let positions = scan_of t.given.scans (tx_in t plane b) (class_of given) in
+        let whole : (each_once n positions ≡ true) × (length levels ≤ length positions) = (once_within (coded_area (tx_in t plane b)) n positions room scan.0, scan.1) in
+        subst (λ (o : TransformBlock). let scan = scan_of t.given.scans o.tx_size (class_of given) in (each_once n scan ≡ true) × (length levels ≤ length scan)) (sym is) whole
 
     pub call_few : length levels ≤ 1024
     call_few = omega (arith, (answer_levels t b plane given levels (allowed_is t b current allowed).1).few, area_few (tx_in t plane b))
@@ -234,7 +243,7 @@ module _ (plane x y : ℕ) (given : TxType) (levels : List ℤ) where
     pub call_small : (k : ℕ) → k < length levels → unsigned_abs (slice_index_or levels k (pos 0)) < 2 ^ 20
     call_small = (answer_levels t b plane given levels (allowed_is t b current allowed).1).small
 
-    pub call_coded : of ≡ transform_of t b plane place → (values : List ℤ) (scan : List ℕ) (n : ℕ) → n ≡ length levels → length values ≡ 1024 → scan ≡ scan_of t.given.scans of.tx_size (class_of given) → levels_at values scan n ≡ levels →
+    pub call_coded : of ≡ transform_of t b plane place → (values : List ℤ) (scan : List ℕ) (n : ℕ) → n ≡ length levels → coded_area (tx_in t plane b) ≤ length values → scan ≡ scan_of t.given.scans of.tx_size (class_of given) → levels_at values scan n ≡ levels →
         ((p : ℕ) → is_in (take n scan) p ≡ false → value_at values p ≡ pos 0) → AreCoded of.tx_size (class_of given) scan n values
     call_coded is values scan n count long same laid none =
         let there : scan ≡ scan_of t.given.scans (tx_in t plane b) (class_of given) = same ∙ ap (λ (o : TransformBlock). scan_of t.given.scans o.tx_size (class_of given)) is in

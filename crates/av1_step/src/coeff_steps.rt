@@ -1,6 +1,7 @@
 // The steps of transform blocks: their coefficients.
-ghost use Rattle.std.specs.Prelude.{◌≡◌, ℕ, ◌+◌, ◌-◌, ◌*◌, ◌/◌, min, ◌%◌, ◌^◌, ◌<◌, ◌≤◌, ◌&&◌, ◌==◌, nat_lt, true, false, Some, None, length, pos, slice_index_or, unsigned_abs};
+ghost use Rattle.std.specs.Prelude.{◌≡◌, ℕ, ◌+◌, ◌-◌, ◌*◌, ◌/◌, min, ◌%◌, ◌^◌, ◌<◌, ◌≤◌, ◌&&◌, ◌==◌, nat_lt, true, false, Some, None, IfSome, length, pos, slice_index_or, unsigned_abs};
 ghost use Rattle.std.specs.List.{list_all};
+ghost use Rattle.av1_coef.specs.Contexts.{coded_area};
 ghost use Rattle.av1_coef.specs.Scans.{each_once, is_in};
 ghost use Rattle.av1_geometry.specs.TxSize.{tx_width_log2, tx_height_log2};
 ghost use Rattle.std.specs.Prelude.{take};
@@ -215,7 +216,8 @@ impl<'u> TileState<'u> {
         }
     }
 
-    // Codes the coefficients of a transform block of the current block.
+    // Codes the coefficients of a transform block of the current block, laid out in the smallest of three arrays that has room for
+    // them: most blocks are small, and an array has to be cleared.
     pub(crate) fn write_coeffs<W: Writer>(
         &mut self,
         w: &mut W,
@@ -230,16 +232,45 @@ impl<'u> TileState<'u> {
         ensures { Writes W.Known result (Coeffs plane x y tx_type levels.now) w.old w.new self.old self.new }
     {
         let b = self.current.unwrap();
+        let area = av1_get_coded_tx_size(self.tx_in(plane, b)).area();
+        if area <= 64 {
+            self.write_laid_out(w, plane, x, y, tx_type, levels, &mut [0; 64])
+        } else if area <= 256 {
+            self.write_laid_out(w, plane, x, y, tx_type, levels, &mut [0; 256])
+        } else {
+            let coeffs = &mut [0; MAX_CODED_TX_SQUARE];
+            self.write_laid_out(w, plane, x, y, tx_type, levels, coeffs)
+        }
+    }
+
+    // Codes them, laid out by position in an array that holds nothing before.
+    fn write_laid_out<W: Writer>(
+        &mut self,
+        w: &mut W,
+        plane: usize,
+        x: usize,
+        y: usize,
+        tx_type: TxType,
+        levels: &Levels,
+        coeffs: &mut [i32],
+    ) -> Result<(), OutOfMemory>
+        requires rules { first_broken (rules (Coeffs plane x y tx_type levels.now) (tile_of self.old)) ≡ None }
+        requires early { (W.position w.old).shift ≤ 2 ^ 28 }
+        requires room { IfSome (tile_of self.old).current (λ b. coded_area (tx_in (tile_of self.old) plane b) ≤ length coeffs.old) }
+        requires zeros { (p : ℕ) → value_at coeffs.old p ≡ pos 0 }
+        ensures { Writes W.Known result (Coeffs plane x y tx_type levels.now) w.old w.new self.old self.new }
+    {
+        let b = self.current.unwrap();
         let place = BlockOffset { x, y };
         let of = self.transform(plane, place, b);
         let unit = self.unit;
         let scan = unit.scans.scan(of.tx_size, tx_type.class());
-        let coeffs = by_position(&levels.levels, &scan.positions);
+        lay_out(&levels.levels, &scan.positions, coeffs);
         self.cw.write_coeffs_lv_map(
             w,
             plane,
             TileBlockOffset(place),
-            &coeffs,
+            coeffs,
             levels.levels.len() as u16,
             of.mode,
             of.tx_size,
@@ -327,18 +358,17 @@ fn has_type(
     }
 }
 
-// The coefficients by position, of which the first positions of a scan have these levels, and all others 0.
-fn by_position(levels: &[i32], scan: &[u16]) -> [i32; MAX_CODED_TX_SQUARE]
-    requires once { each_once 1024 scan.now ≡ true }
+// Puts the levels at the first positions of a scan: the coefficients by position, of which all others are 0.
+fn lay_out(levels: &[i32], scan: &[u16], coeffs: &mut [i32])
+    requires once { each_once (length coeffs.old) scan.now ≡ true }
     requires few { length levels.now ≤ length scan.now }
     requires small { (k : ℕ) → k < length levels.now → unsigned_abs (slice_index_or levels.now k (pos 0)) < 2 ^ 20 }
-    ensures long { length result ≡ 1024 }
-    ensures levels_are { levels_at result scan.now (length levels.now) ≡ levels.now }
-    ensures none { (p : ℕ) → is_in (take (length levels.now) scan.now) p ≡ false → value_at result p ≡ pos 0 }
+    requires zeros { (p : ℕ) → value_at coeffs.old p ≡ pos 0 }
+    ensures long { length coeffs.new ≡ length coeffs.old }
+    ensures levels_are { levels_at coeffs.new scan.now (length levels.now) ≡ levels.now }
+    ensures none { (p : ℕ) → is_in (take (length levels.now) scan.now) p ≡ false → value_at coeffs.new p ≡ pos 0 }
 {
-    let mut coeffs = [0; MAX_CODED_TX_SQUARE];
     for i in 0..levels.len() {
         coeffs[usize::from(scan[i])] = levels[i];
     }
-    coeffs
 }

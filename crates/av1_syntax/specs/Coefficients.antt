@@ -1,5 +1,6 @@
 -- The coefficients of a transform block: the type of the transform and the levels in scan order.
-use Rattle.std.specs.Prelude.{◌≡◌, ℕ, zero, suc, ◌+◌, ◌-◌, ◌*◌, ◌/◌, ◌%◌, ◌^◌, ◌<◌, ◌≤◌, List, [], ◌∷◌, Bool, true, false, if◌then◌else◌, nat_eq, nat_le, min, map, take, drop, length, slice_index, slice_index_or, codes, ℤ, pos, unsigned_abs, IsTrue, Result}
+use Rattle.std.specs.Prelude.{◌≡◌, ℕ, zero, suc, ◌+◌, ◌-◌, ◌*◌, ◌/◌, ◌%◌, ◌^◌, ◌<◌, ◌≤◌, List, [], ◌∷◌, Bool, true, false, if◌then◌else◌, nat_eq}
+use Rattle.std.specs.Prelude.{nat_le, min, map, take, drop, length, slice_index, slice_index_or, codes, ℤ, pos, unsigned_abs, IsTrue, Result}
 use Rattle.std.specs.List.{sum_by}
 use Rattle.av1_blocks.specs.Coefficients.{with_dc_sign, txb_context, entries_above, entries_left}
 use Rattle.av1_blocks.specs.declared.block_context.BlockContext.{BlockContext}
@@ -72,7 +73,8 @@ range_distribution size p class scan c later =
 -- the same from padded levels: what codes the first symbol of a size by its context, and what codes the others at a position
 abbrev pub base_by : TxSize → ℕ → Bool → ℕ → Distribution
 base_by size p is_last context =
-    if is_last then adaptive (codes "coeff_base_eob_cdf") (size_context size ∷ p ∷ context ∷ []) else adaptive (codes "coeff_base_cdf") (size_context size ∷ p ∷ context ∷ [])
+    if is_last then adaptive (codes "coeff_base_eob_cdf") (size_context size ∷ p ∷ context ∷ [])
+    else adaptive (codes "coeff_base_cdf") (size_context size ∷ p ∷ context ∷ [])
 
 abbrev pub range_by : TxSize → ℕ → TxClass → List ℕ → ℕ → Distribution
 range_by size p class levels at =
@@ -91,7 +93,8 @@ one_dimensional TX_CLASS_VERT = 1
 
 -- the size of a level at place c of a scan, up to 15, by the sizes that come later
 abbrev pub size_after : TxSize → ℕ → TxClass → List ℕ → ℕ → List ℕ → Element Distribution ℕ
-size_after size p class scan c later = coeff_size_element (base_distribution size p class scan c later) (range_distribution size p class scan c later) (least later)
+size_after size p class scan c later =
+    coeff_size_element (base_distribution size p class scan c later) (range_distribution size p class scan c later) (least later)
 
 -- the sizes of the levels at the first n places of a scan, up to 15
 abbrev pub sizes_element : TxSize → ℕ → TxClass → List ℕ → ℕ → Element Distribution (List ℕ)
@@ -104,7 +107,8 @@ signs_element p context sizes = levels_after (sign_distribution p context) [] si
 -- one or more levels in the order of a scan: their number, whose class goes by the coded area or by the whole, their sizes up to 15, and they themselves
 abbrev pub block_element : Bool → TxSize → ℕ → ℕ → TxClass → List ℕ → Element Distribution (List ℤ)
 block_element by_coded size p context class scan =
-    after (end_element by_coded size p (one_dimensional class)) (λ n. after (sizes_element size p class scan n) (signs_element p context) (map cut_level)) length
+    after (end_element by_coded size p (one_dimensional class))
+    (λ n. after (sizes_element size p class scan n) (signs_element p context) (map cut_level)) length
 
 abbrev pub are_none : List ℤ → Bool
 are_none [] = true
@@ -121,7 +125,9 @@ abbrev pub coeffs_among : Bool → Element Distribution TxType → TxType → Tx
 coeffs_among by_coded types without size p contexts scans =
     after (flag (adaptive (codes "txb_skip_cdf") (size_context size ∷ contexts.txb_skip_ctx ∷ [])))
     (λ none. choose none (known (without, []))
-    (after types (λ t. renamed (block_element by_coded size p contexts.dc_sign_ctx (class_of t) (scans (class_of t))) (λ levels. (t, levels)) (λ a. a.1)) (λ a. a.0))) (λ a. are_none a.1)
+    (after types (λ t.
+        let levels = block_element by_coded size p contexts.dc_sign_ctx (class_of t) (scans (class_of t)) in
+        renamed levels (λ levels. (t, levels)) (λ a. a.1)) (λ a. a.0))) (λ a. are_none a.1)
 
 abbrev pub is_inter : PredictionMode → Bool
 is_inter mode = nat_le 14 (prediction_mode_number mode)
@@ -187,8 +193,11 @@ pub record HasType (plane : ℕ) (size : TxSize) (mode : PredictionMode) (reduce
 
 -- the contexts of a transform block, of which so many columns and rows of samples are inside the frame
 abbrev pub block_contexts : BlockContext → ℕ → BlockOffset → BlockSize → TxSize → ℕ → ℕ → ℕ → ℕ → TXB_CTX
-block_contexts bc plane bo plane_bsize size xdec ydec width height = txb_context plane plane_bsize size (entries_above bc plane bo xdec width) (entries_left bc plane bo ydec height)
+block_contexts bc plane bo plane_bsize size xdec ydec width height =
+    txb_context plane plane_bsize size (entries_above bc plane bo xdec width) (entries_left bc plane bo ydec height)
 
 -- they went the path of these coefficients, or its beginning, whichever scans the other classes have
-abbrev pub CoeffsCoded : {W U E : Type 0} → Ghosts W → Result U E → ((TxClass → List ℕ) → Element Distribution (TxType × List ℤ)) → TxType → List ℕ → List ℤ → W → W → ContextWriter → ContextWriter → Type 0
-CoeffsCoded known r element t scan levels w u old new = (scans : TxClass → List ℕ) → scans (class_of t) ≡ scan → Coded known r (element scans) (t, levels) w u old new
+abbrev pub CoeffsCoded : {W U E : Type 0} → Ghosts W → Result U E → ((TxClass → List ℕ) → Element Distribution (TxType × List ℤ)) →
+    TxType → List ℕ → List ℤ → W → W → ContextWriter → ContextWriter → Type 0
+CoeffsCoded known r element t scan levels w u old new =
+    (scans : TxClass → List ℕ) → scans (class_of t) ≡ scan → Coded known r (element scans) (t, levels) w u old new

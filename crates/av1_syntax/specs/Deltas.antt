@@ -1,5 +1,6 @@
 -- What a block adds to the levels of the loop filter.
-use Rattle.std.specs.Prelude.{◌≡◌, ℕ, zero, suc, ◌+◌, ◌-◌, ◌^◌, ◌<◌, ◌≤◌, List, [], ◌∷◌, ◌++◌, min, nat_eq, nat_lt, Bool, if◌then◌else◌, Option, Some, None, codes, length, map, replicate, slice_index_or, sum, ℤ, pos, negsuc, ◌-ℤ◌}
+use Rattle.std.specs.Prelude.{◌≡◌, ℕ, zero, suc, ◌+◌, ◌-◌, ◌^◌, ◌<◌, ◌≤◌, List, [], ◌∷◌, ◌++◌, min, nat_eq, nat_lt, Bool}
+use Rattle.std.specs.Prelude.{if◌then◌else◌, Option, Some, None, codes, length, map, replicate, slice_index_or, sum, ℤ, pos, negsuc, ◌-ℤ◌}
 use Rattle.av1_cdf.specs.Distribution.{Distribution, Even}
 use Rattle.av1_geometry.specs.Cfl.{magnitude}
 use Rattle.av1_model.specs.Element.{Element, known, ask, symbol, choose, after, renamed, nothing}

@@ -1,5 +1,7 @@
--- The end of a transform block, which is the number of its coefficients up to the last one that is not zero: eob_pt, eob_extra and eob_extra_bit of the AV1 specification.
-use Rattle.std.specs.Prelude.{ℕ, zero, suc, ◌+◌, ◌-◌, ◌*◌, ◌/◌, ◌%◌, ◌^◌, [], ◌∷◌, nat_lt, nat_le, if◌then◌else◌, Some, None, codes, List, Bool, min, slice_index_or, Option}
+-- The end of a transform block, which is the number of its coefficients up to the last one that is not zero: eob_pt, eob_extra and
+-- eob_extra_bit of the AV1 specification.
+use Rattle.std.specs.Prelude.{ℕ, zero, suc, ◌+◌, ◌-◌, ◌*◌, ◌/◌, ◌%◌, ◌^◌, [], ◌∷◌, nat_lt, nat_le}
+use Rattle.std.specs.Prelude.{if◌then◌else◌, Some, None, codes, List, Bool, min, slice_index_or, Option}
 use Rattle.av1_cdf.specs.Distribution.{Distribution}
 use Rattle.av1_geometry.specs.CoefficientTables.{eob_class, group_start, offset_bits}
 use Rattle.av1_geometry.specs.TxSize.{tx_width_log2, tx_height_log2}
@@ -17,7 +19,8 @@ below n s = if nat_lt s n then Some s else None
 -- a number of so many bits, of which the highest has a distribution of its own
 abbrev pub extra_element : Distribution → ℕ → Element Distribution ℕ
 extra_element highest zero = known 0
-extra_element highest (suc low) = after (symbol highest (below 2) (λ b. b)) (λ b. renamed (literal low) (λ v. b * 2 ^ low + v) (λ e. e % 2 ^ low)) (λ e. e / 2 ^ low)
+extra_element highest (suc low) =
+    after (symbol highest (below 2) (λ b. b)) (λ b. renamed (literal low) (λ v. b * 2 ^ low + v) (λ e. e % 2 ^ low)) (λ e. e / 2 ^ low)
 
 -- an end of a class, by its number in the class
 abbrev pub end_in : (ℕ → Distribution) → ℕ → Element Distribution ℕ
@@ -51,5 +54,6 @@ area_number by_coded size = let of = if by_coded then coded_size size else size 
 abbrev pub end_element : Bool → TxSize → ℕ → ℕ → Element Distribution ℕ
 end_element by_coded size p one_dimensional =
     let k = area_number by_coded size in
-    end_among (adaptive (slice_index_or class_fields k []) (p ∷ one_dimensional ∷ [])) (5 + k) (λ class. adaptive (codes "eob_extra_cdf") (size_context size ∷ p ∷ (class - 3) ∷ []))
+    end_among (adaptive (slice_index_or class_fields k []) (p ∷ one_dimensional ∷ [])) (5 + k)
+    (λ class. adaptive (codes "eob_extra_cdf") (size_context size ∷ p ∷ (class - 3) ∷ []))
     (coded_area size)

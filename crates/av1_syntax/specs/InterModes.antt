@@ -6,7 +6,9 @@ use Rattle.av1_cdf.specs.Distribution.{Distribution}
 use Rattle.av1_cdf.specs.Layout.{Slot, slot}
 use Rattle.av1_geometry.specs.declared.block_offset.BlockOffset.{BlockOffset}
 use Rattle.av1_geometry.specs.declared.prediction_mode.PredictionMode.{PredictionMode}
-use Rattle.av1_geometry.specs.declared.prediction_mode.PredictionMode.TheVariants.{NEARESTMV, NEAR0MV, GLOBALMV, NEWMV, NEAREST_NEARESTMV, NEAR_NEAR0MV, NEAREST_NEWMV, NEW_NEARESTMV, NEAR_NEW0MV, NEW_NEAR0MV, GLOBAL_GLOBALMV, NEW_NEWMV}
+use Rattle.av1_geometry.specs.declared.prediction_mode.PredictionMode.TheVariants.{NEARESTMV, NEAR0MV, GLOBALMV, NEWMV}
+use Rattle.av1_geometry.specs.declared.prediction_mode.PredictionMode.TheVariants.{NEAREST_NEARESTMV, NEAR_NEAR0MV, NEAREST_NEWMV}
+use Rattle.av1_geometry.specs.declared.prediction_mode.PredictionMode.TheVariants.{NEW_NEARESTMV, NEAR_NEW0MV, NEW_NEAR0MV, GLOBAL_GLOBALMV, NEW_NEWMV}
 use Rattle.av1_geometry.specs.PredictionMode.{prediction_mode_number}
 use Rattle.av1_model.specs.Element.{Element, known, symbol}
 use Rattle.av1_syntax.specs.Calls.{adaptive}

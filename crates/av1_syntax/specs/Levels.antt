@@ -1,5 +1,7 @@
--- The levels of a transform block in scan order: their sizes up to 15 from the last to the first, then the signs and what the sizes have above 14 from the first to the last.
-use Rattle.std.specs.Prelude.{ℕ, zero, suc, ◌+◌, ◌-◌, ◌^◌, List, [], ◌∷◌, ◌++◌, Bool, true, false, if◌then◌else◌, nat_eq, nat_lt, min, map, length, slice_index, slice_index_or, ℤ, pos, negsuc, ◌-ℤ◌, unsigned_abs}
+-- The levels of a transform block in scan order: their sizes up to 15 from the last to the first, then the signs and what the
+-- sizes have above 14 from the first to the last.
+use Rattle.std.specs.Prelude.{ℕ, zero, suc, ◌+◌, ◌-◌, ◌^◌, List, [], ◌∷◌, ◌++◌, Bool, true, false, if◌then◌else◌, nat_eq}
+use Rattle.std.specs.Prelude.{nat_lt, min, map, length, slice_index, slice_index_or, ℤ, pos, negsuc, ◌-ℤ◌, unsigned_abs}
 use Rattle.av1_cdf.specs.Distribution.{Distribution, Even}
 use Rattle.av1_cdf.specs.Distribution.Distribution.{Adaptive}
 use Rattle.av1_cdf.specs.Layout.{Slot}
@@ -33,7 +35,8 @@ least (a ∷ later) = 0
 -- the sizes at the first so many places, where those that come later are read; `base` and `range` know a place and the sizes that come later
 abbrev pub sizes_after : (ℕ → List ℕ → Distribution) → (ℕ → List ℕ → Distribution) → ℕ → List ℕ → Element Distribution (List ℕ)
 sizes_after base range zero later = known later
-sizes_after base range (suc c) later = after (coeff_size_element (base c later) (range c later) (least later)) (λ a. sizes_after base range c (a ∷ later)) (λ sizes. slice_index sizes c)
+sizes_after base range (suc c) later =
+    after (coeff_size_element (base c later) (range c later) (least later)) (λ a. sizes_after base range c (a ∷ later)) (λ sizes. slice_index sizes c)
 
 -- what a size has above 15, read no further than the twentieth zero: golomb_length_bit and golomb_data_bit
 abbrev pub golomb_element : Element Distribution ℕ
@@ -58,7 +61,8 @@ level_of false size = pos size
 
 -- a level of which at most 15 is read
 abbrev pub level_element : Distribution → ℕ → Element Distribution ℤ
-level_element sign a = choose (nat_eq a 0) (known (pos 0)) (after (flag sign) (λ negative. renamed (whole_element a) (level_of negative) unsigned_abs) is_negative)
+level_element sign a =
+    choose (nat_eq a 0) (known (pos 0)) (after (flag sign) (λ negative. renamed (whole_element a) (level_of negative) unsigned_abs) is_negative)
 
 abbrev pub level_at : List ℤ → ℕ → ℤ
 level_at levels k = slice_index_or levels k (pos 0)
@@ -66,7 +70,8 @@ level_at levels k = slice_index_or levels k (pos 0)
 -- levels, of which the first ones are read, and then these sizes up to 15; `sign` has the distribution of the sign at a place
 abbrev pub levels_after : (ℕ → Distribution) → List ℤ → List ℕ → Element Distribution (List ℤ)
 levels_after sign done [] = known done
-levels_after sign done (a ∷ sizes) = after (level_element (sign (length done)) a) (λ level. levels_after sign (done ++ level ∷ []) sizes) (λ levels. level_at levels (length done))
+levels_after sign done (a ∷ sizes) =
+    after (level_element (sign (length done)) a) (λ level. levels_after sign (done ++ level ∷ []) sizes) (λ levels. level_at levels (length done))
 
 -- the size of a level up to 15
 abbrev pub cut_level : ℤ → ℕ

@@ -1,5 +1,6 @@
 -- What a block refers to: one of seven frames, or one behind and one ahead in display order.
-use Rattle.std.specs.Prelude.{◌≡◌, ℕ, zero, suc, ◌+◌, ◌≤◌, [], ◌∷◌, min, Bool, true, false, not, ◌&&◌, nat_eq, nat_le, Option, Some, None, codes, slice_index_or}
+use Rattle.std.specs.Prelude.{◌≡◌, ℕ, zero, suc, ◌+◌, ◌≤◌, [], ◌∷◌, min, Bool, true, false, not}
+use Rattle.std.specs.Prelude.{◌&&◌, nat_eq, nat_le, Option, Some, None, codes, slice_index_or}
 use Rattle.av1_blocks.specs.declared.block.Block.{Block}
 use Rattle.av1_blocks.specs.declared.block_context.BlockContext.{BlockContext}
 use Rattle.av1_blocks.specs.Grid.{Grid, IsFrame, block_at, over}
@@ -9,7 +10,8 @@ use Rattle.av1_geometry.specs.declared.block_offset.BlockOffset.{BlockOffset}
 use Rattle.av1_geometry.specs.declared.block_size.BlockSize.TheVariants.{BLOCK_4X4}
 use Rattle.av1_geometry.specs.declared.frame_type.ReferenceMode.{ReferenceMode}
 use Rattle.av1_geometry.specs.declared.ref_type.RefType.{RefType}
-use Rattle.av1_geometry.specs.declared.ref_type.RefType.TheVariants.{LAST_FRAME, LAST2_FRAME, LAST3_FRAME, GOLDEN_FRAME, BWDREF_FRAME, ALTREF2_FRAME, ALTREF_FRAME, NONE_FRAME}
+use Rattle.av1_geometry.specs.declared.ref_type.RefType.TheVariants.{LAST_FRAME, LAST2_FRAME, LAST3_FRAME, GOLDEN_FRAME}
+use Rattle.av1_geometry.specs.declared.ref_type.RefType.TheVariants.{BWDREF_FRAME, ALTREF2_FRAME, ALTREF_FRAME, NONE_FRAME}
 use Rattle.av1_geometry.specs.FrameType.{reference_mode_number}
 use Rattle.av1_geometry.specs.RefType.{reference_number}
 use Rattle.av1_model.specs.Element.{Element, known, symbol, choose, after, renamed}
@@ -65,7 +67,8 @@ comp_bwd_slot decision ctx = slot (codes "comp_bwd_ref_cdf") (ctx ∷ decision �
 -- the reference of a block that has one: single_ref_p1 to single_ref_p6 of the AV1 specification
 abbrev pub single_element : RefContexts → Element Distribution RefType
 single_element c =
-    decide (from_ref BWDREF_FRAME) (single_slot 0 c.side) (ahead (single_slot 1 c.ahead) (single_slot 5 c.near)) (behind (single_slot 2 c.behind) (single_slot 3 c.early) (single_slot 4 c.late))
+    decide (from_ref BWDREF_FRAME) (single_slot 0 c.side) (ahead (single_slot 1 c.ahead) (single_slot 5 c.near))
+    (behind (single_slot 2 c.behind) (single_slot 3 c.early) (single_slot 4 c.late))
 
 -- the references of a block that has two: comp_ref, comp_ref_p1 and comp_ref_p2, and then comp_bwdref and comp_bwdref_p1
 abbrev pub forward_element : RefContexts → Element Distribution RefType
@@ -81,7 +84,8 @@ both_sides_of (suc zero) = Some true
 both_sides_of (suc (suc s)) = None
 
 abbrev pub both_sides_element : Grid → BlockOffset → Element Distribution Bool
-both_sides_element g bo = symbol (adaptive (codes "comp_ref_type_cdf") (comp_ref_type_context (refs_above g bo) (refs_left g bo) ∷ [])) both_sides_of flag_number
+both_sides_element g bo =
+    symbol (adaptive (codes "comp_ref_type_cdf") (comp_ref_type_context (refs_above g bo) (refs_left g bo) ∷ [])) both_sides_of flag_number
 
 abbrev pub one_element : RefContexts → Element Distribution (RefType × RefType)
 one_element c = renamed (single_element c) (λ r. (r, NONE_FRAME)) (λ rs. rs.0)
@@ -101,7 +105,8 @@ is_pair rs = is_second rs.1
 
 abbrev pub among_element : Grid → BlockOffset → RefContexts → Bool → Element Distribution (RefType × RefType)
 among_element g bo c two =
-    choose two (decide is_pair (slot (codes "comp_mode_cdf") (comp_mode_context (refs_above g bo) (refs_left g bo) ∷ [])) (two_element g bo c) (one_element c)) (one_element c)
+    let mode = slot (codes "comp_mode_cdf") (comp_mode_context (refs_above g bo) (refs_left g bo) ∷ []) in
+    choose two (decide is_pair mode (two_element g bo c) (one_element c)) (one_element c)
 
 -- a block may have two references where the frame has not one alone, and both sides are at least 8 luma samples
 abbrev pub may_be_pair : ReferenceMode → Block → Bool

@@ -1,11 +1,13 @@
 -- The filters of loop restoration.
-use Rattle.std.specs.Prelude.{◌≡◌, ℕ, zero, suc, ◌+◌, ◌-◌, ◌*◌, ◌<◌, List, [], ◌∷◌, Bool, false, not, ◌||◌, if◌then◌else◌, min, nat_eq, codes, drop, length, slice_get, slice_index, slice_index_or, ℤ, pos, ◌+ℤ◌, ◌≤ℤ◌, ◌⊎◌}
+use Rattle.std.specs.Prelude.{◌≡◌, ℕ, zero, suc, ◌+◌, ◌-◌, ◌*◌, ◌<◌, List, [], ◌∷◌, Bool, false, not, ◌||◌, if◌then◌else◌, min}
+use Rattle.std.specs.Prelude.{nat_eq, codes, drop, length, slice_get, slice_index, slice_index_or, ℤ, pos, ◌+ℤ◌, ◌≤ℤ◌, ◌⊎◌}
 use Rattle.av1_cdf.specs.Distribution.{Distribution, Even}
 use Rattle.av1_cdf.specs.Distribution.Distribution.{Adaptive}
 use Rattle.av1_cdf.specs.Layout.{Slot, slot}
 use Rattle.av1_codes.specs.Codes.{refsubexp_between}
 use Rattle.av1_ec.specs.CodeTrees.{code, between_tree}
-use Rattle.av1_geometry.specs.declared.constants.TheConstants.{SGRPROJ_XQD_MIN, SGRPROJ_XQD_MAX, SGRPROJ_XQD_MID, WIENER_TAPS_MIN, WIENER_TAPS_MAX, WIENER_TAPS_MID, SGRPROJ_RADII}
+use Rattle.av1_geometry.specs.declared.constants.TheConstants.{SGRPROJ_XQD_MIN, SGRPROJ_XQD_MAX, SGRPROJ_XQD_MID}
+use Rattle.av1_geometry.specs.declared.constants.TheConstants.{WIENER_TAPS_MIN, WIENER_TAPS_MAX, WIENER_TAPS_MID, SGRPROJ_RADII}
 use Rattle.av1_model.specs.Cdf.{token_of}
 use Rattle.av1_model.specs.Eighths.{eighths}
 use Rattle.av1_model.specs.Interval.{Interval, narrow}
@@ -50,7 +52,9 @@ kind_symbol lrf_type kind = if nat_eq lrf_type 1 then kind else min kind 1
 
 abbrev pub kind_slot : ℕ → Slot
 kind_slot lrf_type =
-    if nat_eq lrf_type 1 then slot (codes "lrf_switchable_cdf") [] else if nat_eq lrf_type 2 then slot (codes "lrf_wiener_cdf") [] else slot (codes "lrf_sgrproj_cdf") []
+    if nat_eq lrf_type 1 then slot (codes "lrf_switchable_cdf") []
+    else if nat_eq lrf_type 2 then slot (codes "lrf_wiener_cdf") []
+    else slot (codes "lrf_sgrproj_cdf") []
 
 -- the kind of a filter, by the type of the plane, of which 0 has no filter
 abbrev pub kind_element : ℕ → Element Distribution ℕ
@@ -73,7 +77,9 @@ unused_weight pass = if nat_eq pass 0 then pos 0 else pos 95
 
 -- the weight of a pass, by its reference
 abbrev pub weight_by : ℕ → ℕ → ℤ → Element Distribution ℤ
-weight_by set pass ref = choose (has_radius set pass) (near_element (number_at SGRPROJ_XQD_MIN pass) (number_at SGRPROJ_XQD_MAX pass) 4 ref) (known (unused_weight pass))
+weight_by set pass ref =
+    let coded = near_element (number_at SGRPROJ_XQD_MIN pass) (number_at SGRPROJ_XQD_MAX pass) 4 ref in
+    choose (has_radius set pass) coded (known (unused_weight pass))
 
 abbrev pub weight_element : ℕ → List ℤ → ℕ → Element Distribution ℤ
 weight_element set refs pass = weight_by set pass (number_at refs pass)

@@ -1,5 +1,6 @@
 -- The segments of blocks, which are coded by their distance from a prediction.
-use Rattle.std.specs.Prelude.{ℕ, ◌+◌, ◌-◌, ◌*◌, ◌/◌, ◌%◌, ◌≡◌, ◌≤◌, ◌==◌, ◌&&◌, ◌||◌, [], ◌∷◌, min, nat_eq, nat_le, nat_lt, Bool, true, false, if◌then◌else◌, Some, None, codes}
+use Rattle.std.specs.Prelude.{ℕ, ◌+◌, ◌-◌, ◌*◌, ◌/◌, ◌%◌, ◌≡◌, ◌≤◌, ◌==◌, ◌&&◌, ◌||◌, [], ◌∷◌, min}
+use Rattle.std.specs.Prelude.{nat_eq, nat_le, nat_lt, Bool, true, false, if◌then◌else◌, Some, None, codes}
 use Rattle.av1_blocks.specs.declared.block_context.BlockContext.{BlockContext}
 use Rattle.av1_blocks.specs.Grid.{Grid, block_at, over}
 use Rattle.av1_cdf.specs.Distribution.{Distribution}
@@ -50,7 +51,8 @@ abbrev pub segment_element : Grid → BlockOffset → Bool → ℕ → Element D
 segment_element g bo skip last =
     let r = predicted_segment g bo last in
     choose skip (known r)
-    (symbol (adaptive (codes "spatial_segmentation_cdfs") (segment_context g bo ∷ [])) (λ s. if nat_lt s (last + 1) then Some (deinterleaved (last + 1) r s) else None) (interleaved (last + 1) r))
+    (symbol (adaptive (codes "spatial_segmentation_cdfs") (segment_context g bo ∷ []))
+    (λ s. if nat_lt s (last + 1) then Some (deinterleaved (last + 1) r s) else None) (interleaved (last + 1) r))
 
 -- a segment that a block may have
 abbrev pub IsSegment : Grid → BlockOffset → Bool → ℕ → ℕ → Type 0
@@ -59,4 +61,6 @@ IsSegment g bo false last a = a ≤ last
 
 -- a skipped block gets the predicted segment, over its part inside the tile
 abbrev pub entered_segment : BlockOffset → BlockSize → Bool → ℕ → BlockContext → BlockContext
-entered_segment bo size skip last bc = if skip then record bc { blocks = over bo size (λ b. record b { segmentation_idx = predicted_segment bc.blocks bo last }) bc.blocks } else bc
+entered_segment bo size skip last bc =
+    if skip then record bc { blocks = over bo size (λ b. record b { segmentation_idx = predicted_segment bc.blocks bo last }) bc.blocks }
+    else bc

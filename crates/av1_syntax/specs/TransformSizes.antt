@@ -1,5 +1,6 @@
 -- The sizes of the transforms of a block.
-use Rattle.std.specs.Prelude.{◌≡◌, ℕ, zero, suc, ◌+◌, ◌-◌, ◌*◌, ◌/◌, ◌%◌, ◌^◌, ◌≤◌, List, [], ◌∷◌, Bool, true, false, not, ◌&&◌, ◌||◌, ◌==◌, if◌then◌else◌, min, max, nat_eq, nat_le, nat_lt, Option, Some, None, codes, length, map, take, slice_index_or, unwrap_or}
+use Rattle.std.specs.Prelude.{◌≡◌, ℕ, zero, suc, ◌+◌, ◌-◌, ◌*◌, ◌/◌, ◌%◌, ◌^◌, ◌≤◌, List, [], ◌∷◌, Bool, true, false, not, ◌&&◌, ◌||◌, ◌==◌}
+use Rattle.std.specs.Prelude.{if◌then◌else◌, min, max, nat_eq, nat_le, nat_lt, Option, Some, None, codes, length, map, take, slice_index_or, unwrap_or}
 use Rattle.std.specs.List.{range_with_len}
 use Rattle.av1_blocks.specs.Block.{is_inter}
 use Rattle.av1_blocks.specs.Edges.{with_tx_sides}
@@ -102,7 +103,8 @@ split_category size tx = let side = longer (max_tx_size size) in 6 * (6 - side) 
 abbrev pub txfm_partition_context : BlockContext → BlockOffset → BlockSize → TxSize → ℕ → ℕ → ℕ
 txfm_partition_context bc bo size tx tbx tby =
     split_category size tx
-    + ((if nat_lt (width_above bc bo (nat_eq tby 0)) (2 ^ tx_width_log2 tx) then 1 else 0) + (if nat_lt (height_left bc bo (nat_eq tbx 0)) (2 ^ tx_height_log2 tx) then 1 else 0))
+    + ((if nat_lt (width_above bc bo (nat_eq tby 0)) (2 ^ tx_width_log2 tx) then 1 else 0)
+    + (if nat_lt (height_left bc bo (nat_eq tbx 0)) (2 ^ tx_height_log2 tx) then 1 else 0))
 
 -- what codes whether a transform at a place is split, which is one of so many columns and rows of those of its block
 abbrev pub split_slot : BlockContext → BlockOffset → BlockSize → TxSize → ℕ → ℕ → Distribution
@@ -149,7 +151,8 @@ parts_element bo size part (p ∷ ps) bc =
 abbrev pub split_element : BlockContext → BlockOffset → BlockSize → ℕ → ℕ → Element Distribution Bool
 split_element bc bo size tbx tby =
     let part = halved 1 (max_tx_size size) in
-    after (flag (split_slot bc bo size (max_tx_size size) tbx tby)) (λ split. choose split (parts_element bo size part (parts_of size part) bc) (known false)) (λ split. split)
+    after (flag (split_slot bc bo size (max_tx_size size) tbx tby))
+    (λ split. choose split (parts_element bo size part (parts_of size part) bc) (known false)) (λ split. split)
 
 -- that of the largest transform, at depth 0, or a part, at depth 1
 abbrev pub tx_size_inter_element : BlockContext → BlockOffset → BlockSize → TxSize → ℕ → ℕ → ℕ → Element Distribution Bool

@@ -10,7 +10,8 @@ use Rattle.av1_geometry.specs.TxTables.{coded_types, index_in, tx_set}
 use Rattle.av1_geometry.specs.declared.prediction_mode.PredictionMode.{PredictionMode}
 use Rattle.av1_geometry.specs.declared.tx_size.TxSize.{TxSize}
 use Rattle.av1_geometry.specs.declared.tx_type.TxSet.{TxSet}
-use Rattle.av1_geometry.specs.declared.tx_type.TxSet.TheVariants.{TX_SET_DCTONLY, TX_SET_INTER_3, TX_SET_INTRA_2, TX_SET_INTRA_1, TX_SET_INTER_2, TX_SET_INTER_1}
+use Rattle.av1_geometry.specs.declared.tx_type.TxSet.TheVariants.{TX_SET_DCTONLY, TX_SET_INTER_3, TX_SET_INTRA_2}
+use Rattle.av1_geometry.specs.declared.tx_type.TxSet.TheVariants.{TX_SET_INTRA_1, TX_SET_INTER_2, TX_SET_INTER_1}
 use Rattle.av1_geometry.specs.declared.tx_type.TxType.{TxType}
 use Rattle.av1_geometry.specs.declared.tx_type.TxType.TheVariants.{DCT_DCT}
 use Rattle.av1_model.specs.Element.{Element, known, symbol}
@@ -35,6 +36,7 @@ type_of_set set slot = option_map_or (type_in set) slot (known DCT_DCT)
 abbrev pub tx_type_slot : TxSize → PredictionMode → Bool → Bool → Option Slot
 tx_type_slot tx mode inter reduced = type_slot (tx_set tx inter reduced) (tx_number (tx_sqr tx)) (prediction_mode_number mode)
 
--- the type of a transform, by its size, the mode of the block, whether that is an inter mode, and whether the frame has reduced sets: transform_type() of the AV1 specification
+-- the type of a transform, by its size, the mode of the block, whether that is an inter mode, and whether the frame has reduced
+-- sets: transform_type() of the AV1 specification
 abbrev pub tx_type_element : TxSize → PredictionMode → Bool → Bool → Element Distribution TxType
 tx_type_element tx mode inter reduced = type_of_set (tx_set tx inter reduced) (tx_type_slot tx mode inter reduced)

@@ -1,5 +1,6 @@
 -- Motion vectors, by how they differ from a reference vector, in units of 1/8 sample.
-use Rattle.std.specs.Prelude.{◌≡◌, ℕ, zero, suc, ◌+◌, ◌-◌, ◌*◌, ◌/◌, ◌%◌, ◌^◌, ◌≤◌, List, [], ◌∷◌, Bool, true, false, if◌then◌else◌, nat_eq, nat_le, nat_lt, Option, Some, None, codes, slice_get, ℤ, pos, negsuc, ◌+ℤ◌, ◌-ℤ◌}
+use Rattle.std.specs.Prelude.{◌≡◌, ℕ, zero, suc, ◌+◌, ◌-◌, ◌*◌, ◌/◌, ◌%◌, ◌^◌, ◌≤◌, List, [], ◌∷◌, Bool, true, false}
+use Rattle.std.specs.Prelude.{if◌then◌else◌, nat_eq, nat_le, nat_lt, Option, Some, None, codes, slice_get, ℤ, pos, negsuc, ◌+ℤ◌, ◌-ℤ◌}
 use Rattle.av1_cdf.specs.Distribution.{Distribution}
 use Rattle.av1_cdf.specs.Distribution.Distribution.{Adaptive}
 use Rattle.av1_cdf.specs.Layout.{Slot, slot, component_slot}
@@ -64,7 +65,8 @@ eighth_slot axis c = if nat_eq c 0 then component_slot axis (codes "class0_hp_cd
 
 abbrev pub fraction_element : ℕ → MvSubpelPrecision → ℕ → ℕ → Element Distribution ℕ
 fraction_element axis p c d =
-    after (digit_where (has_quarters p) (quarters_slot axis c d) 3) (λ f. renamed (digit_where (has_eighths p) (eighth_slot axis c) 1) (λ h. 8 * d + 2 * f + h) (λ o. o % 2)) (λ o. o / 2 % 4)
+    after (digit_where (has_quarters p) (quarters_slot axis c d) 3)
+    (λ f. renamed (digit_where (has_eighths p) (eighth_slot axis c) 1) (λ h. 8 * d + 2 * f + h) (λ o. o % 2)) (λ o. o / 2 % 4)
 
 -- what a size has above the base of its class
 abbrev pub offset_element : ℕ → MvSubpelPrecision → ℕ → Element Distribution ℕ
@@ -81,7 +83,8 @@ class_of z = class_up_to 10 z
 -- a size, counted from 0: its class, and what it has above the base
 abbrev pub size_element : ℕ → MvSubpelPrecision → Element Distribution ℕ
 size_element axis p =
-    after (digit (component_slot axis (codes "classes_cdf") [])) (λ c. renamed (offset_element axis p c) (λ o. class_base c + o) (λ z. z - class_base c)) class_of
+    after (digit (component_slot axis (codes "classes_cdf") []))
+    (λ c. renamed (offset_element axis p c) (λ o. class_base c + o) (λ z. z - class_base c)) class_of
 
 -- the size with ones for what is below the unit
 abbrev pub with_ones : MvSubpelPrecision → ℕ → ℕ
@@ -99,7 +102,8 @@ directed false n = pos n
 -- a component that is not zero: its sign and its size, axis 0 for rows and 1 for columns
 abbrev pub component_element : ℕ → MvSubpelPrecision → Element Distribution ℤ
 component_element axis p =
-    after (flag (Adaptive (component_slot axis (codes "sign_cdf") []))) (λ neg. renamed (size_element axis p) (λ z. directed neg (z + 1)) (λ v. magnitude v - 1)) is_negative
+    after (flag (Adaptive (component_slot axis (codes "sign_cdf") [])))
+    (λ neg. renamed (size_element axis p) (λ z. directed neg (z + 1)) (λ v. magnitude v - 1)) is_negative
 
 -- a component as it is coded: a size that is no multiple of the unit becomes the next one
 abbrev pub coded_component : MvSubpelPrecision → ℤ → ℤ

@@ -8,7 +8,8 @@ ghost use Rattle.av1_cdf.specs.Slots.{slot_of};
 ghost use Rattle.av1_geometry.specs.BlockSize.{number_of, width_log2, height_log2};
 ghost use Rattle.av1_geometry.specs.Chroma.{has_chroma_at};
 ghost use Rattle.av1_geometry.specs.PredictionMode.{prediction_mode_number};
-ghost use Rattle.av1_syntax.specs.IntraModes.{class_of, above_class, left_class, HasIntraNeighbours, kf_y_slot, y_mode_slot, uv_mode_slot, uv_modes, angle_number};
+ghost use Rattle.av1_syntax.specs.IntraModes.{class_of, above_class, left_class, HasIntraNeighbours};
+ghost use Rattle.av1_syntax.specs.IntraModes.{kf_y_slot, y_mode_slot, uv_mode_slot, uv_modes, angle_number};
 ghost use Rattle.av1_syntax.specs.Palette.{is_dc, palette_size};
 
 use crate::context_writer::ContextWriter;

@@ -14,7 +14,8 @@ ghost use Rattle.av1_syntax.specs.Coefficients.{coeffs_element, type_without, Ar
 /// For any scans, a transform block has at most as many levels as coefficients of it are coded, of which the last is not 0, each
 /// of a size below 2^20. In luma its type is one of its set, and DCT where it has no levels; in chroma it is the given one.
 pub fn law_of_coefficients()
-    ensures { (by_coded : Bool) (plane : ℕ) (size : TxSize) (mode : PredictionMode) (reduced : Bool) (given : TxType) (contexts : TXB_CTX) (scans : TxClass → List ℕ) →
+    ensures { (by_coded : Bool) (plane : ℕ) (size : TxSize) (mode : PredictionMode) (reduced : Bool) (given : TxType) →
+        (contexts : TXB_CTX) (scans : TxClass → List ℕ) →
         (plane ≡ 0 → prediction_mode_number mode ≢ 13) → contexts.txb_skip_ctx < 13 → contexts.dc_sign_ctx < 3 →
         let IsOne = AreCoeffs (IsTyped plane size mode reduced given) (type_without plane given) (coded_area size) in
         Reads HasSymbols (coeffs_element by_coded plane size mode reduced given contexts scans) IsOne 70668 }

@@ -1,5 +1,6 @@
 // The coefficients of a transform block, which rav1e codes in `block_unit.rs`.
-ghost use Rattle.std.specs.Prelude.{◌≡◌, ℕ, ◌+◌, ◌-◌, ◌*◌, ◌^◌, ◌<◌, ◌≤◌, List, [], ◌∷◌, Bool, true, false, if◌then◌else◌, IfOk, length, map, min, unsigned_abs, slice_index_or, pos, ◌≤ℤ◌};
+ghost use Rattle.std.specs.Prelude.{◌≡◌, ℕ, ◌+◌, ◌-◌, ◌*◌, ◌^◌, ◌<◌, ◌≤◌, List, [], ◌∷◌, Bool, true, false};
+ghost use Rattle.std.specs.Prelude.{if◌then◌else◌, IfOk, length, map, min, unsigned_abs, slice_index_or, pos, ◌≤ℤ◌};
 ghost use Rattle.std.specs.List.{sum_by};
 ghost use Rattle.av1_cdf.specs.Context.{AreCdfs};
 ghost use Rattle.av1_cdf.specs.Distribution.{Distribution, Even};
@@ -122,7 +123,8 @@ fn context_at(contexts: &[i8], c: usize) -> usize
 
 impl ContextWriter {
     ghost use Rattle.av1_syntax.specs.Calls.{Coded, Moved};
-    ghost use Rattle.av1_syntax.specs.Coefficients.{levels_at, size_at, sizes_from, size_after, sizes_element, signs_element, block_element, AreCoded, ArePadded, AreContexts};
+    ghost use Rattle.av1_syntax.specs.Coefficients.{levels_at, size_at, sizes_from, size_after, sizes_element};
+    ghost use Rattle.av1_syntax.specs.Coefficients.{signs_element, block_element, AreCoded, ArePadded, AreContexts};
     ghost use Rattle.av1_syntax.specs.EndOfBlock.{extra_element, end_element};
     ghost use Rattle.av1_syntax.specs.Levels.{coeff_size_element};
 
@@ -237,7 +239,8 @@ impl ContextWriter {
         requires shift { (W.position w.old).shift + 65 ≤ 2 ^ 28 + 2 ^ 24 }
         ensures wrote { let values = map T.value coeffs.now in
             let later = sizes_from values scan.now eob (c + 1) in
-            Coded W.Known result (size_after block.tx_size block.plane_type block.tx_class scan.now c later) (size_at values scan.now c) w.old w.new self.old self.new }
+            let element = size_after block.tx_size block.plane_type block.tx_class scan.now c later in
+            Coded W.Known result element (size_at values scan.now c) w.old w.new self.old self.new }
         ensures moves { Moved W.Known 65 w.old w.new self.old self.new }
         ensures rest { self.new.bc ≡ self.old.bc }
     {

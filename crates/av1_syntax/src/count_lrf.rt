@@ -5,7 +5,8 @@ ghost use Rattle.av1_cdf.specs.Layout.{slot};
 ghost use Rattle.av1_geometry.specs.declared.constants.TheConstants.{SGRPROJ_XQD_MIN, SGRPROJ_XQD_MAX};
 ghost use Rattle.av1_model.specs.Cdf.{IsCdf};
 ghost use Rattle.av1_model.specs.Position.{interval_of};
-ghost use Rattle.av1_syntax.specs.Restoration.{plane_at, number_at, kind_of, IsBetween, AreWithin, near_word, weight_by, flat_bits, flat_bits_by, IsCounted, IsCost};
+ghost use Rattle.av1_syntax.specs.Restoration.{plane_at, number_at, kind_of, IsBetween, AreWithin};
+ghost use Rattle.av1_syntax.specs.Restoration.{near_word, weight_by, flat_bits, flat_bits_by, IsCounted, IsCost};
 
 use crate::context_writer::ContextWriter;
 use crate::restoration::{RestorationFilter, TileRestorationState, has_pass};

@@ -27,7 +27,8 @@ ghost use Rattle.av1_syntax.specs.Factors.{factors_element, AreFactors};
 ghost use Rattle.av1_syntax.specs.Flags.{skip_element, filter_intra_element};
 ghost use Rattle.av1_syntax.specs.IntraModes.{intra_mode_kf_element, intra_mode_element, uv_modes, uv_mode_element, angle_delta_element};
 ghost use Rattle.av1_syntax.specs.Literals.{literal};
-ghost use Rattle.av1_syntax.specs.InterModes.{is_inter_element, drl_mode_element, inter_mode_element, compound_mode_element, is_among, inter_modes, compound_modes, new_context, ref_context};
+ghost use Rattle.av1_syntax.specs.InterModes.{is_inter_element, drl_mode_element, inter_mode_element};
+ghost use Rattle.av1_syntax.specs.InterModes.{compound_mode_element, is_among, inter_modes, compound_modes, new_context, ref_context};
 ghost use Rattle.av1_syntax.specs.Palette.{palette_element};
 ghost use Rattle.av1_syntax.specs.Partition.{partition_element, has_cols, has_rows, IsParted, is_allowed};
 ghost use Rattle.av1_syntax.specs.RefFrames.{ref_frames_element, may_be_pair, AreRefFrames, LiesIn, with_counts};
@@ -133,7 +134,8 @@ pub fn law_of_counts()
 /// vector by such components or none; each path leads to one vector. A component that is a multiple of the unit is coded as it
 /// is.
 pub fn law_of_vectors()
-    ensures component { (axis : ℕ) (p : MvSubpelPrecision) → axis < 2 → Reads HasSymbols (component_element axis p) (λ v. (1 ≤ magnitude v) × IsComponent p v) 14 }
+    ensures component { (axis : ℕ) (p : MvSubpelPrecision) → axis < 2 →
+        Reads HasSymbols (component_element axis p) (λ v. (1 ≤ magnitude v) × IsComponent p v) 14 }
     ensures coded { (p : MvSubpelPrecision) (v : ℤ) → 1 ≤ magnitude v → IsComponent p v → coded_component p v ≡ v }
     ensures vector { (ref : MotionVector) (p : MvSubpelPrecision) → Reads HasSymbols (vector_element ref p) (λ mv. IsDifference p (difference mv ref)) 29 }
 {}

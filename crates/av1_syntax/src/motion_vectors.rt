@@ -5,7 +5,8 @@ ghost use Rattle.av1_cdf.specs.Context.{AreCdfs};
 ghost use Rattle.av1_cdf.specs.Slots.{slot_of};
 ghost use Rattle.av1_geometry.specs.Cfl.{magnitude};
 ghost use Rattle.av1_geometry.specs.MotionVector.{IsValid, joint_of, is_vertical, class_base};
-ghost use Rattle.av1_syntax.specs.Vectors.{has_quarters, has_eighths, span, quarters_slot, eighth_slot, with_ones, is_negative, directed, coded_component, IsComponent, joint_number, difference, IsDifference};
+ghost use Rattle.av1_syntax.specs.Vectors.{has_quarters, has_eighths, span, quarters_slot, eighth_slot, with_ones, is_negative};
+ghost use Rattle.av1_syntax.specs.Vectors.{directed, coded_component, IsComponent, joint_number, difference, IsDifference};
 
 use crate::context_writer::ContextWriter;
 use av1_cdf::{CDFContext, CDFOffset};
@@ -17,7 +18,8 @@ use av1_geometry::{
 
 impl ContextWriter {
     ghost use Rattle.av1_syntax.specs.Calls.{Coded, Moved};
-    ghost use Rattle.av1_syntax.specs.Vectors.{digit, digit_where, bits_from, whole_element, fraction_element, offset_element, size_element, component_element, component_where, components_element, difference_element, vector_element};
+    ghost use Rattle.av1_syntax.specs.Vectors.{digit, digit_where, bits_from, whole_element, fraction_element, offset_element, size_element};
+    ghost use Rattle.av1_syntax.specs.Vectors.{component_element, component_where, components_element, difference_element, vector_element};
 
     /// Codes a vector by how it differs from a reference vector, in units of 1/8 sample: which components differ, and then the
     /// rows and the columns (`read_mv` of the AV1 specification). Without fractions the differences are whole samples, at low
@@ -253,7 +255,8 @@ impl ContextWriter {
         requires axis { axis < 2 }
         requires cdfs { AreCdfs self.old.fc }
         requires shift { (W.position w.old).shift + 26 ≤ 2 ^ 28 + 2 ^ 24 }
-        ensures wrote { Coded W.Known result (fraction_element axis precision mv_class (offset / 8)) (with_ones precision offset) w.old w.new self.old self.new }
+        ensures wrote { let element = fraction_element axis precision mv_class (offset / 8) in
+            Coded W.Known result element (with_ones precision offset) w.old w.new self.old self.new }
         ensures moves { Moved W.Known 26 w.old w.new self.old self.new }
         ensures rest { self.new.bc ≡ self.old.bc }
     {

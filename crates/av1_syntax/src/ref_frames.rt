@@ -5,7 +5,8 @@ ghost use Rattle.av1_blocks.specs.Sound.{IsReady};
 ghost use Rattle.av1_cdf.specs.Context.{AreCdfs};
 ghost use Rattle.av1_cdf.specs.Slots.{slot_of};
 ghost use Rattle.av1_geometry.specs.RefType.{reference_number};
-ghost use Rattle.av1_mvref.specs.References.{counts, by_counts, kept_count, kept_behind, kept_ahead, comp_mode_context, comp_ref_type_context, refs_above, refs_left};
+ghost use Rattle.av1_mvref.specs.References.{counts, by_counts, kept_count, kept_behind, kept_ahead};
+ghost use Rattle.av1_mvref.specs.References.{comp_mode_context, comp_ref_type_context, refs_above, refs_left};
 ghost use Rattle.av1_syntax.specs.RefFrames.{may_be_pair, is_second, refs_of, ref_frames_at, AreRefFrames, AreContexts, contexts_at, with_counts};
 
 use crate::context_writer::ContextWriter;
@@ -144,7 +145,8 @@ impl ContextWriter {
         requires inside { IsInside self.old.bc.blocks bo.0 }
         requires ready { IsReady self.old.bc.blocks }
         requires counts { (block_at self.old.bc.blocks bo.0.x bo.0.y).neighbors_ref_counts ≡ counts self.old.bc.blocks bo.0 }
-        requires refs { let b = block_at self.old.bc.blocks bo.0.x bo.0.y in AreRefFrames (may_be_pair reference_mode b) (ref_frames_at self.old.bc.blocks bo.0) }
+        requires refs { let b = block_at self.old.bc.blocks bo.0.x bo.0.y in
+            AreRefFrames (may_be_pair reference_mode b) (ref_frames_at self.old.bc.blocks bo.0) }
         requires cdfs { AreCdfs self.old.fc }
         requires early { (W.position w.old).shift ≤ 2 ^ 28 }
         ensures wrote { let g = self.old.bc.blocks in

@@ -1,5 +1,6 @@
 // The coefficients of a transform block, with its type and its contexts.
-ghost use Rattle.std.specs.Prelude.{◌≡◌, ◌≢◌, ◌+◌, ◌-◌, ◌*◌, ◌/◌, ◌%◌, ◌^◌, ◌<◌, ◌≤◌, Bool, IfOk, OnOk, OnErr, List, length, slice_index, map, min, nat_lt, pos};
+ghost use Rattle.std.specs.Prelude.{◌≡◌, ◌≢◌, ◌+◌, ◌-◌, ◌*◌, ◌/◌, ◌%◌, ◌^◌, ◌<◌, ◌≤◌, Bool, IfOk};
+ghost use Rattle.std.specs.Prelude.{OnOk, OnErr, List, length, slice_index, map, min, nat_lt, pos};
 ghost use Rattle.av1_blocks.specs.Coefficients.{with_dc_sign};
 ghost use Rattle.av1_blocks.specs.Edges.{with_coefficients};
 ghost use Rattle.av1_cdf.specs.Context.{AreCdfs};

@@ -1,5 +1,6 @@
 // Sizes and types of transforms.
-ghost use Rattle.std.specs.Prelude.{◌≡◌, ℕ, ◌+◌, ◌-◌, ◌*◌, ◌/◌, ◌%◌, ◌^◌, ◌<◌, ◌≤◌, IsTrue, IfSome, OnOk, OnErr, option_map, true, false, length, nat_eq, if◌then◌else◌, []};
+ghost use Rattle.std.specs.Prelude.{◌≡◌, ℕ, ◌+◌, ◌-◌, ◌*◌, ◌/◌, ◌%◌, ◌^◌, ◌<◌, ◌≤◌, IsTrue, IfSome, OnOk};
+ghost use Rattle.std.specs.Prelude.{OnErr, option_map, true, false, length, nat_eq, if◌then◌else◌, []};
 ghost use Rattle.av1_blocks.specs.Grid.{IsInside};
 ghost use Rattle.av1_cdf.specs.Context.{AreCdfs};
 ghost use Rattle.av1_cdf.specs.Slots.{slot_of};
@@ -9,8 +10,10 @@ ghost use Rattle.av1_geometry.specs.BlockTables.{max_tx_size};
 ghost use Rattle.av1_geometry.specs.PredictionMode.{prediction_mode_number};
 ghost use Rattle.av1_geometry.specs.TxSize.{tx_width_log2, tx_height_log2};
 ghost use Rattle.av1_geometry.specs.TxTables.{coded_types, uses, tx_set};
-ghost use Rattle.av1_syntax.specs.TransformSizes.{longer, halved, depths, depth_of, is_offered, depth_slot, reach_above, reach_left, is_wide_above, is_high_left, tx_size_context};
-ghost use Rattle.av1_syntax.specs.TransformSizes.{width_above, height_left, split_category, txfm_partition_context, split_slot, IsPlaced, is_within, parts_of, place_of};
+ghost use Rattle.av1_syntax.specs.TransformSizes.{longer, halved, depths, depth_of, is_offered, depth_slot};
+ghost use Rattle.av1_syntax.specs.TransformSizes.{reach_above, reach_left, is_wide_above, is_high_left, tx_size_context};
+ghost use Rattle.av1_syntax.specs.TransformSizes.{width_above, height_left, split_category};
+ghost use Rattle.av1_syntax.specs.TransformSizes.{txfm_partition_context, split_slot, IsPlaced, is_within, parts_of, place_of};
 ghost use Rattle.av1_syntax.specs.TransformSizes.{entered_tx, entered_parts, entered_split, AreSome};
 ghost use Rattle.av1_syntax.specs.TransformTypes.{tx_type_slot};
 

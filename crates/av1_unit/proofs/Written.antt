@@ -25,7 +25,8 @@ use Rattle.av1_unit.specs.Checked.{IsChecked}
 use Rattle.av1_unit.specs.Coded.{Numbered, numbered, report_of, tiles_of, told_of}
 use Rattle.av1_unit.specs.Findings.{broken_at, first_of, first_refusal, length_wrong, lengths_wrong, message_wrong, messages_wrong, places_before, places_behind, script_rules, scripts_wrong}
 use Rattle.av1_unit.specs.Framing.{Obu, framed, obus}
-use Rattle.av1_unit.specs.Headline.{bytes_of, AreTiles, IsWritten}
+use Rattle.av1_unit.specs.Headline.{IsWritten}
+use Rattle.av1_unit.specs.Tiles.{bytes_of, AreTiles}
 use Rattle.av1_unit.specs.Plain.{PlainUnit}
 use Rattle.av1_unit.specs.Report.{ReportLists}
 use Rattle.av1_unit.proofs.Places.{first_of-both, first_of-here, first_of-next, first_of-none, first_of-some}

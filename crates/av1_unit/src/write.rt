@@ -7,7 +7,8 @@ ghost use Rattle.av1_tile.specs.TileBytes.{script_of, tile_report};
 ghost use Rattle.av1_unit.specs.Coded.{numbered, report_of, tiles_of, told_of};
 ghost use Rattle.av1_unit.specs.Findings.{first_refusal};
 ghost use Rattle.av1_unit.specs.HeaderReading.{HeadersAreRead};
-ghost use Rattle.av1_unit.specs.Headline.{bytes_of, IsWritten};
+ghost use Rattle.av1_unit.specs.Headline.{IsWritten};
+ghost use Rattle.av1_unit.specs.Tiles.{bytes_of};
 ghost use Rattle.av1_unit.specs.Plain.{plain};
 
 use crate::Report;

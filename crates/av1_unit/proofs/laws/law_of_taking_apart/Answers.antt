@@ -1,6 +1,6 @@
 use Rattle.std.proofs.Common.{◌≡◌, ◌++◌, List, ℕ, sym, ap, ◌∙◌}
 use Rattle.av1_unit.specs.Coded.{numbered, tiles_of}
-use Rattle.av1_unit.specs.Headline.{bytes_of}
+use Rattle.av1_unit.specs.Tiles.{bytes_of}
 use Rattle.av1_unit.proofs.UnitApart.{apart, no_prefix}
 use Rattle.av1_unit.proofs.UnitTiles.{tiles_apart}
 use Rattle.av1_unit.proofs.Written.{written_is}
