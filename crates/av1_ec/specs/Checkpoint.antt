@@ -9,7 +9,8 @@ abbrev pub reach : WriterCheckpoint → ℕ
 reach c = c.stream_size
 
 -- no less is stored, and each checkpoint that is reached is still reached and stands for the same position
-pub record KeepsCheckpoints {W : Type 0} (stored : W → ℕ) (IsReached : W → WriterCheckpoint → Type 0) (position_at : W → WriterCheckpoint → Position) (old new : W) : Type 0 where
+pub record KeepsCheckpoints {W : Type 0} (stored : W → ℕ) (IsReached : W → WriterCheckpoint → Type 0)
+    (position_at : W → WriterCheckpoint → Position) (old new : W) : Type 0 where
   pub more : stored old ≤ stored new
   pub reached : (c : WriterCheckpoint) → IsReached old c → IsReached new c
   pub same : (c : WriterCheckpoint) → IsReached old c → position_at new c ≡ position_at old c

@@ -1,5 +1,7 @@
--- What a reader does to take a code back from symbols, where each bit is a symbol of the distribution q: the trees of literal(n), NS(n) and so on of the AV1 specification.
-use Rattle.std.specs.Prelude.{◌≡◌, ℕ, zero, suc, ◌+◌, ◌-◌, ◌*◌, ◌^◌, ◌≤◌, List, [], ◌∷◌, Bool, nat_eq, nat_lt, nat_le, if◌then◌else◌, map, ℤ, pos, ◌+ℤ◌, ◌-ℤ◌, unsigned_abs}
+-- What a reader does to take a code back from symbols, where each bit is a symbol of the distribution q: the trees of
+-- literal(n), NS(n) and so on of the AV1 specification.
+use Rattle.std.specs.Prelude.{◌≡◌, ℕ, zero, suc, ◌+◌, ◌-◌, ◌*◌, ◌^◌, ◌≤◌, ℤ, pos, ◌+ℤ◌, ◌-ℤ◌, unsigned_abs}
+use Rattle.std.specs.Prelude.{List, [], ◌∷◌, map, Bool, nat_eq, nat_lt, nat_le, if◌then◌else◌}
 use Rattle.av1_model.specs.Syntax.{Syntax, Leads, bind}
 use Rattle.av1_model.specs.Syntax.Syntax.{Bad, Done, Ask}
 use Rattle.av1_model.specs.Element.{Element}
@@ -27,12 +29,14 @@ module _ {Q : Type 0} (q : Q) where
   unfoldable pub quniform_tree : ℕ → Syntax Q ℕ
   quniform_tree n =
       let m = short_words n in
-      if nat_lt n 2 then Done 0 else bind (literal_tree (binary_digits n - 1)) (λ v. if nat_lt v m then Done v else bit_then (λ s. Done (2 * v - m + s)))
+      if nat_lt n 2 then Done 0
+      else bind (literal_tree (binary_digits n - 1)) (λ v. if nat_lt v m then Done v else bit_then (λ s. Done (2 * v - m + s)))
 
   -- one of n values at width b, where the later ones are read as they are among the rest
   abbrev pub subexp_step_tree : ℕ → ℕ → Syntax Q ℕ → Syntax Q ℕ
   subexp_step_tree b n rest =
-      if nat_le n (3 * 2 ^ b) then quniform_tree n else bit_then (λ more. if nat_eq more 0 then literal_tree b else bind rest (λ v. Done (2 ^ b + v)))
+      if nat_le n (3 * 2 ^ b) then quniform_tree n
+      else bit_then (λ more. if nat_eq more 0 then literal_tree b else bind rest (λ v. Done (2 ^ b + v)))
 
   -- the same at widths that rise by one, in so many steps, of which n are enough
   abbrev pub subexp_tree_from : ℕ → ℕ → ℕ → Syntax Q ℕ
@@ -49,12 +53,14 @@ module _ {Q : Type 0} (q : Q) where
 
   -- one of the numbers from low on and below high: decode_signed_subexp_with_ref_bool()
   abbrev pub between_tree : ℤ → ℤ → ℕ → ℤ → Syntax Q ℤ
-  between_tree low high k r = bind (refsubexp_tree (unsigned_abs (high -ℤ low)) k (unsigned_abs (r -ℤ low))) (λ v. Done (low +ℤ pos v))
+  between_tree low high k r =
+      bind (refsubexp_tree (unsigned_abs (high -ℤ low)) k (unsigned_abs (r -ℤ low))) (λ v. Done (low +ℤ pos v))
 
   -- after n zeros, where so many bits may follow up to the first one
   abbrev pub golomb_tree_after : ℕ → ℕ → Syntax Q ℕ
   golomb_tree_after zero n = Bad
-  golomb_tree_after (suc more) n = bit_then (λ s. if nat_eq s 0 then golomb_tree_after more (suc n) else bind (bits_below n 1) (λ v. Done (v - 1)))
+  golomb_tree_after (suc more) n =
+      bit_then (λ s. if nat_eq s 0 then golomb_tree_after more (suc n) else bind (bits_below n 1) (λ v. Done (v - 1)))
 
   -- Exp-Golomb, of numbers below 2 ^ most - 1: golomb_length_bit and golomb_data_bit of the AV1 specification
   unfoldable pub golomb_tree : ℕ → Syntax Q ℕ

@@ -1,5 +1,6 @@
 -- What an encoder keeps: entries of a byte and a carry, and a window of the low end below them.
 use Rattle.std.specs.Prelude.{◌≡◌, ℕ, ◌+◌, ◌-◌, ◌*◌, ◌^◌, ◌<◌, ◌≤◌, ◌⊎◌, ℤ, pos, negsuc, List, length}
+use Rattle.std.specs.Int.{bytes_high_first}
 use Rattle.std.specs.Int.Digits.{number_from_digits}
 use Rattle.std.specs.List.{All}
 use Rattle.av1_model.specs.Position.{Position, encoder_at}
@@ -20,6 +21,10 @@ pub record IsEncoding (entries : List ℕ) (low range weight : ℕ) : Type 0 whe
 -- what is known of an encoder
 abbrev pub encoder_position : List ℕ → ℕ → ℕ → ℤ → ℕ → Position
 encoder_position entries low range count fake = record (encoder_at (interval_of_window entries low range (weight_of count))) { fake = fake }
+
+-- the bytes of entries, the carry of each added to the byte before it
+abbrev pub bytes_of_entries : List ℕ → List ℕ
+bytes_of_entries entries = bytes_high_first (length entries) (number_from_digits 256 entries)
 
 -- entries left the window, so that d bits fit below: the low end and the number of bits are the same, and where an entry
 -- left, what is left in the window is small

@@ -1,7 +1,7 @@
 -- What a writer tells of the bits that its symbols take.
-use Rattle.std.specs.Prelude.{ℕ, ◌+◌, ◌*◌, ◌/◌, List, [], ◌∷◌}
+use Rattle.std.specs.Prelude.{◌≡◌, ℕ, ◌+◌, ◌*◌, ◌/◌, List, [], ◌∷◌}
 use Rattle.av1_ec.specs.Counter.{counter_position}
-use Rattle.av1_ec.specs.Recorder.{recorder_position}
+use Rattle.av1_ec.specs.Recorder.{recorder_position, tokens_at}
 use Rattle.av1_ec.specs.Writing.{with_fake}
 use Rattle.av1_model.specs.Eighths.{eighths}
 use Rattle.av1_model.specs.Interval.{Interval, Token, narrow, whole}
@@ -28,6 +28,11 @@ new_encoder = encoder_at whole
 -- after tokens, and with fake bits
 abbrev pub told : Position → List Token → ℕ → Position
 told p ts fake = with_fake (advance_all p ts) fake
+
+-- this holds of where a recorder's tokens bring a new writer of any kind
+abbrev pub AfterReplay : Position → (Position → Type 0) → Type 0
+AfterReplay recorder Holds =
+    (q : Position) → q.range ≡ 32768 → q.shift ≡ 0 → Holds (advance_all q (tokens_at recorder))
 
 -- what tokens leave of an interval, in order
 abbrev pub narrow_all : Interval → List Token → Interval

@@ -1,5 +1,5 @@
 -- What a recorder keeps: its tokens, and the range and the bits after them.
-use Rattle.std.specs.Prelude.{◌≡◌, ℕ, ◌+◌, ◌^◌, ◌≤◌, List, [], map, take, length, Some, Result, OnOk, unwrap_or}
+use Rattle.std.specs.Prelude.{◌≡◌, ℕ, ◌+◌, ◌^◌, ◌≤◌, List, [], map, take, length, Some, unwrap_or}
 use Rattle.std.specs.List.{All}
 use Rattle.av1_ec.specs.Checkpoint.{reach}
 use Rattle.av1_ec.specs.Counter.{counter_position}
@@ -22,10 +22,6 @@ recorder_position tokens range bits fake = record (counter_position range bits f
 -- a recorder's tokens
 abbrev pub tokens_at : Position → List Token
 tokens_at p = unwrap_or p.tokens []
-
--- after a replay that comes to its end a recorder stands as a new one, with the fake bits that it had
-abbrev pub IsClearedIf : {U E : Type 0} → Result U E → Position → Position → Type 0
-IsClearedIf result old new = OnOk result (new ≡ recorder_position [] 32768 0 old.fake)
 
 -- the range and the bits are those after the tokens, and there are no more bits than a writer may have
 pub record IsRecording (tokens : List Token) (range bits : ℕ) : Type 0 where

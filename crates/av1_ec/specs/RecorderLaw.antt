@@ -12,7 +12,8 @@ use Rattle.av1_model.proofs.Tokens.{whole_valid}
 use Rattle.av1_model.proofs.Positions.{advance_all_valid}
 
 -- the interval that a recorder's range and bits are of
-pub recording_interval : (tokens : List Token) (range bits : ℕ) → IsRecording tokens range bits → IsInterval (record { low = 0; range = range; shift = bits })
+pub recording_interval : (tokens : List Token) (range bits : ℕ) → IsRecording tokens range bits →
+    IsInterval (record { low = 0; range = range; shift = bits })
 recording_interval tokens range bits r =
     let p = advance_all (counter_position 32768 0 0) tokens in
     let v = advance_all_valid (counter_position 32768 0 0) tokens whole_valid r.valid in
@@ -23,6 +24,7 @@ recording_interval tokens range bits r =
       inside = omega (arith, v.inside, e, r.range_after);
     }
 
-pub recording_valid : (tokens : List Token) (range bits fake : ℕ) → ∥ IsRecording tokens range bits ∥₁ → fake ≤ 2 ^ 28 → IsPosition (recorder_position tokens range bits fake)
+pub recording_valid : (tokens : List Token) (range bits fake : ℕ) → ∥ IsRecording tokens range bits ∥₁ →
+    fake ≤ 2 ^ 28 → IsPosition (recorder_position tokens range bits fake)
 recording_valid tokens range bits fake h f =
     ∥∥₁_elim h (hlevel props) (λ r. record { interval = recording_interval tokens range bits r; shift = r.few; fake = f })

@@ -9,6 +9,10 @@ pub record IsPosition (p : Position) : Type 0 where
   pub shift : p.shift ≤ 2 ^ 28 + 2 ^ 24
   pub fake : p.fake ≤ 2 ^ 28
 
+-- a position has no more bits than a writer may have
+abbrev pub HasFewBits : Position → Type 0
+HasFewBits p = p.shift ≤ 2 ^ 28 + 2 ^ 24
+
 -- with more fake bits
 abbrev pub with_fake : Position → ℕ → Position
 with_fake p more = record p { fake = p.fake + more }

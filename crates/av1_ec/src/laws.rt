@@ -1,9 +1,10 @@
 // Laws of the codes.
 ghost use Rattle.std.specs.Prelude.{ℕ, ◌+◌, ◌^◌, ◌<◌, ◌≤◌, ◌≡◌, List, Bool, length, ℤ, pos, ◌-ℤ◌, ◌≤ℤ◌, ◌<ℤ◌, max};
-ghost use Rattle.av1_ec.specs.CodeTrees.{AsksOnly, IsFlat, ReadsCode, bit_symbols, literal_tree, golomb_tree, quniform_tree, subexp_tree, refsubexp_tree, between_tree};
+ghost use Rattle.av1_ec.specs.CodeTrees.{AsksOnly, IsFlat, ReadsCode, bit_symbols};
+ghost use Rattle.av1_ec.specs.CodeTrees.{between_tree, golomb_tree, literal_tree, quniform_tree, refsubexp_tree, subexp_tree};
 ghost use Rattle.av1_codes.specs.Codes.{golomb, refsubexp_between};
 ghost use Rattle.av1_ec.specs.Flat.{flat_tokens};
-ghost use Rattle.av1_ec.specs.Writing.{IsPosition};
+ghost use Rattle.av1_ec.specs.Writing.{HasFewBits, IsPosition};
 ghost use Rattle.av1_model.specs.Bits.{bits_of};
 ghost use Rattle.av1_model.specs.Cdf.{IsCdf, token_of};
 ghost use Rattle.av1_model.specs.Codes.{quniform, subexp, refsubexp};
@@ -20,7 +21,7 @@ pub fn law_of_lengths()
     ensures subexp { (n k v : ℕ) → n ≤ 2 ^ 24 → k ≤ 16 → length (subexp n k v) ≤ 49 }
     ensures refsubexp { (n k r v : ℕ) → n ≤ 2 ^ 24 → k ≤ 16 → length (refsubexp n k r v) ≤ 49 }
     ensures between { (low high r v : ℤ) (k : ℕ) → low ≤ℤ high → (high -ℤ low) ≤ℤ pos (2 ^ 24) → k ≤ 16 → length (refsubexp_between low high k r v) ≤ 49 }
-    ensures near { (p : Position) (bits : List Bool) → IsPosition p → length bits ≤ 64 → p.shift ≤ 2 ^ 28 → (advance_all p (flat_tokens bits)).shift ≤ 2 ^ 28 + 2 ^ 24 }
+    ensures near { (p : Position) (bits : List Bool) → IsPosition p → length bits ≤ 64 → p.shift ≤ 2 ^ 28 → HasFewBits (advance_all p (flat_tokens bits)) }
 {}
 
 /// A symbol takes at most 13 bits.

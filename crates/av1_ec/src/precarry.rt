@@ -1,10 +1,8 @@
 // An encoder's entries, each a byte and a carry: they leave the window, and their carries are summed at the end.
-ghost use Rattle.std.specs.Prelude.{◌≡◌, ◌+◌, ◌-◌, ◌/◌, ◌%◌, ◌^◌, ◌<◌, ◌≤◌, ◌++◌, ◌∷◌, [], IfOk, OnOk, OnErr, IsOk, All, length, take, vec_len, vec_capacity};
-ghost use Rattle.std.specs.Int.{bytes_high_first};
-ghost use Rattle.std.specs.Int.Digits.{number_from_digits};
+ghost use Rattle.std.specs.Prelude.{◌≡◌, ◌+◌, ◌-◌, ◌/◌, ◌%◌, ◌^◌, ◌<◌, ◌≤◌, ◌++◌, ◌∷◌, [], IfOk, OnOk, OnErr, IsOk, All, take, vec_len, vec_capacity};
 ghost use Rattle.av1_model.specs.Interval.{final_bytes};
 ghost use Rattle.av1_model.specs.Window.{interval_of_window};
-ghost use Rattle.av1_ec.specs.Encoder.{HasRoom};
+ghost use Rattle.av1_ec.specs.Encoder.{HasRoom, bytes_of_entries};
 
 use av1_geometry::OutOfMemory;
 use std::alloc::Global;
@@ -91,7 +89,7 @@ pub(crate) fn push_end(precarry: &mut Vec<u16>, low: u32, weight: u32) -> Result
     requires low { low + 32768 ≤ 2 ^ (weight + 1) }
     requires carries { All (λ e. e < 512) precarry.old.items }
     ensures carries { OnOk result (All (λ e. e < 512) precarry.new.items) }
-    ensures bytes { OnOk result (bytes_high_first (length precarry.new.items) (number_from_digits 256 precarry.new.items) ≡ final_bytes (interval_of_window precarry.old.items low 32768 weight)) }
+    ensures bytes { OnOk result (bytes_of_entries precarry.new.items ≡ final_bytes (interval_of_window precarry.old.items low 32768 weight)) }
 {
     let end = ((low + 0x3fff) >> 15 << 15) + 0x4000;
     precarry.push((end >> (weight - 8)) as u16)?;
@@ -104,7 +102,7 @@ pub(crate) fn push_end(precarry: &mut Vec<u16>, low: u32, weight: u32) -> Result
 // The bytes of entries, the carry of each added to the one before it.
 pub(crate) fn sum_carries(alloc: Global, precarry: &[u16]) -> Result<Vec<u8>, OutOfMemory>
     requires { All (λ e. e < 512) precarry.now }
-    ensures { IfOk result (λ v. v.items ≡ bytes_high_first (length precarry.now) (number_from_digits 256 precarry.now)) }
+    ensures { IfOk result (λ v. v.items ≡ bytes_of_entries precarry.now) }
 {
     let mut offs = precarry.len();
     let mut out = vec![in alloc; 0u8; offs]?;

@@ -2,10 +2,10 @@
 ghost use Rattle.std.specs.Prelude.{◌≡◌, ℕ, ◌+◌, ◌^◌, ◌≤◌, All, Bool, List};
 ghost use Rattle.av1_model.specs.Interval.{Token, IsToken, whole};
 ghost use Rattle.av1_model.specs.Position.{Position, advance, advance_all, encoder_at};
-ghost use Rattle.av1_ec.specs.Rate.{tell_at, tell_frac_at, told, new_counter, new_recorder, new_encoder, narrow_all};
+ghost use Rattle.av1_ec.specs.Rate.{AfterReplay, narrow_all, new_counter, new_encoder, new_recorder, tell_at, tell_frac_at, told};
 ghost use Rattle.av1_ec.specs.Recorder.{tokens_at};
 ghost use Rattle.av1_ec.specs.Flat.{flat_tokens};
-ghost use Rattle.av1_ec.specs.Writing.{IsPosition, with_fake};
+ghost use Rattle.av1_ec.specs.Writing.{HasFewBits, IsPosition, with_fake};
 
 use crate::counter::WriterCounter;
 use crate::frac::OD_BITRES;
@@ -49,7 +49,7 @@ pub fn law_of_counters(w: &WriterBase<WriterCounter>)
 
 /// A recorder's range and shift are those of any new writer after its tokens. So it can be replayed into a new writer.
 pub fn law_of_recorders(w: &WriterBase<WriterRecorder>)
-    ensures range { let p = ⟦<WriterBase<WriterRecorder> as Known>⟧.position w.now in (q : Position) → q.range ≡ 32768 → q.shift ≡ 0 → (advance_all q (tokens_at p)).range ≡ p.range }
-    ensures shift { let p = ⟦<WriterBase<WriterRecorder> as Known>⟧.position w.now in (q : Position) → q.range ≡ 32768 → q.shift ≡ 0 → (advance_all q (tokens_at p)).shift ≡ p.shift }
-    ensures fits { let p = ⟦<WriterBase<WriterRecorder> as Known>⟧.position w.now in (q : Position) → q.range ≡ 32768 → q.shift ≡ 0 → (advance_all q (tokens_at p)).shift ≤ 2 ^ 28 + 2 ^ 24 }
+    ensures range { let p = ⟦<WriterBase<WriterRecorder> as Known>⟧.position w.now in AfterReplay p (λ q. q.range ≡ p.range) }
+    ensures shift { let p = ⟦<WriterBase<WriterRecorder> as Known>⟧.position w.now in AfterReplay p (λ q. q.shift ≡ p.shift) }
+    ensures fits { let p = ⟦<WriterBase<WriterRecorder> as Known>⟧.position w.now in AfterReplay p HasFewBits }
 {}

@@ -1,11 +1,12 @@
 // The recorder: the tokens in order, and the range and how many bits were shifted out, as an encoder's.
 ghost use Rattle.std.specs.Prelude.{◌≡◌, ℕ, ◌+◌, ◌-◌, ◌^◌, ◌<◌, ◌≤◌, ◌++◌, ◌∷◌, [], IsOk, OnOk, OnErr, length, take, vec_len, vec_capacity};
-ghost use Rattle.av1_ec.specs.Recorder.{IsClearedIf, IsRecorded, IsRecording, recorder_position, token_in, tokens_at, tokens_in};
+ghost use Rattle.av1_ec.specs.Recorder.{IsRecorded, IsRecording, recorder_position, token_in, tokens_in};
 ghost use Rattle.av1_model.specs.Interval.{IsToken};
 ghost use Rattle.av1_ec.specs.Checkpoint.{KeepsCheckpoints};
 ghost use Rattle.av1_model.specs.Position.{advance, advance_all};
 ghost use Rattle.av1_ec.specs.RecorderLaw.{recording_valid};
-ghost use Rattle.av1_ec.specs.Storing.{HasBits, Keeps, StoresInTurn};
+ghost use Rattle.av1_ec.specs.Storing.{HasBits, IsClearedIf, Keeps, StoresInTurn, tokens_of};
+ghost use Rattle.av1_ec.specs.Writing.{HasFewBits};
 ghost use Rattle.av1_ec.specs.declared.recorder.Recorded.{Recorded};
 
 use crate::known::Known;
@@ -89,7 +90,7 @@ impl WriterRecorder {
 // Stores a token into a writer of any kind.
 fn store_into(dest: &mut dyn StorageBackend, token: &Recorded) -> Result<(), OutOfMemory>
     requires token { IsToken (token_in token.now) }
-    requires shift { (advance (position dest.old) (token_in token.now)).shift ≤ 2 ^ 28 + 2 ^ 24 }
+    requires shift { HasFewBits (advance (position dest.old) (token_in token.now)) }
     ensures ok { OnOk result (position dest.new ≡ advance (position dest.old) (token_in token.now)) }
     ensures err { OnErr result (position dest.new ≡ position dest.old) }
     ensures room { 0 < spare dest.old → IsOk result }
@@ -103,10 +104,10 @@ impl WriterBase<WriterRecorder> {
     /// Stores the tokens into another writer, in order, and leaves the recorder as a new one, but with its fake bits. A
     /// refusal leaves the recorder whole, and has stored a beginning of the tokens.
     pub fn replay(&mut self, dest: &mut dyn StorageBackend) -> Result<(), OutOfMemory>
-        requires { let ts = tokens_at (⟦<WriterBase<WriterRecorder> as Known>⟧.position self.old) in (advance_all (position dest.old) ts).shift ≤ 2 ^ 28 + 2 ^ 24 }
-        ensures stored { let ts = tokens_at (⟦<WriterBase<WriterRecorder> as Known>⟧.position self.old) in StoresInTurn position spare ts result dest.old dest.new }
+        requires { HasFewBits (advance_all (position dest.old) (tokens_of ⟦<WriterBase<WriterRecorder> as Known>⟧ self.old)) }
+        ensures stored { let ts = tokens_of ⟦<WriterBase<WriterRecorder> as Known>⟧ self.old in StoresInTurn position spare ts result dest.old dest.new }
         ensures kept { KeepsCheckpoints stored IsReached position_at dest.old dest.new }
-        ensures cleared { IsClearedIf result (⟦<WriterBase<WriterRecorder> as Known>⟧.position self.old) (⟦<WriterBase<WriterRecorder> as Known>⟧.position self.new) }
+        ensures cleared { IsClearedIf ⟦<WriterBase<WriterRecorder> as Known>⟧ result self.old self.new }
         ensures whole { OnErr result (self.new ≡ self.old) }
     {
         for token in &self.s.storage {
@@ -118,10 +119,10 @@ impl WriterBase<WriterRecorder> {
 
     /// `replay` into a writer whose kind is known, so that each of its calls is direct.
     pub fn replay_into<D: StorageBackend>(&mut self, dest: &mut D) -> Result<(), OutOfMemory>
-        requires { HasBits D.Known dest.old (tokens_at (⟦<WriterBase<WriterRecorder> as Known>⟧.position self.old)) }
-        ensures stored { let ts = tokens_at (⟦<WriterBase<WriterRecorder> as Known>⟧.position self.old) in StoresInTurn D.position D.spare ts result dest.old dest.new }
+        requires { HasBits D.Known dest.old (tokens_of ⟦<WriterBase<WriterRecorder> as Known>⟧ self.old) }
+        ensures stored { let ts = tokens_of ⟦<WriterBase<WriterRecorder> as Known>⟧ self.old in StoresInTurn D.position D.spare ts result dest.old dest.new }
         ensures kept { Keeps D.Known dest.old dest.new }
-        ensures cleared { IsClearedIf result (⟦<WriterBase<WriterRecorder> as Known>⟧.position self.old) (⟦<WriterBase<WriterRecorder> as Known>⟧.position self.new) }
+        ensures cleared { IsClearedIf ⟦<WriterBase<WriterRecorder> as Known>⟧ result self.old self.new }
         ensures whole { OnErr result (self.new ≡ self.old) }
     {
         for recorded in &self.s.storage {

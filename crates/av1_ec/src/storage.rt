@@ -2,7 +2,7 @@
 ghost use Rattle.std.specs.Prelude.{◌≡◌, ℕ, ℤ, ◌+◌, ◌^◌, ◌≤◌, [], ◌∷◌, IsOk, OnOk};
 ghost use Rattle.av1_model.specs.Interval.{IsToken};
 ghost use Rattle.av1_ec.specs.Checkpoint.{reach};
-ghost use Rattle.av1_ec.specs.Storing.{HasBits, Keeps, StoresAll};
+ghost use Rattle.av1_ec.specs.Storing.{HasBits, Keeps, KeepsPositionsUpTo, KeepsReached, KeepsReachedUpTo, StoresAll};
 ghost use Rattle.av1_ec.specs.Writing.{IsPosition, stream_bits_at, with_fake};
 
 use crate::known::Known;
@@ -80,8 +80,8 @@ pub trait StorageBackend: Known {
         ensures fake { (Self.position self.new).fake ≡ (Self.position self.old).fake }
         ensures spare { Self.spare self.old ≤ Self.spare self.new }
         ensures stored { Self.stored self.new ≡ reach checkpoint.now }
-        ensures reached { (c : WriterCheckpoint) → reach c ≤ reach checkpoint.now → Self.IsReached self.old c → Self.IsReached self.new c }
-        ensures kept { (c : WriterCheckpoint) → reach c ≤ reach checkpoint.now → Self.IsReached self.old c → Self.position_at self.new c ≡ Self.position_at self.old c };
+        ensures reached { KeepsReachedUpTo Self.Known (reach checkpoint.now) self.old self.new }
+        ensures kept { KeepsPositionsUpTo Self.Known (reach checkpoint.now) self.old self.new };
 
     /// How many bits are in the stored stream: an encoder's whole bytes, all bits of another writer.
     fn stream_bits(&self) -> usize
@@ -93,7 +93,7 @@ pub trait StorageBackend: Known {
         ensures position { Self.position self.new ≡ with_fake (Self.position self.old) bits_frac }
         ensures spare { Self.spare self.new ≡ Self.spare self.old }
         ensures stored { Self.stored self.new ≡ Self.stored self.old }
-        ensures reached { (c : WriterCheckpoint) → Self.IsReached self.old c → Self.IsReached self.new c }
+        ensures reached { KeepsReached Self.Known self.old self.new }
         ensures kept { (c : WriterCheckpoint) → Self.position_at self.new c ≡ with_fake (Self.position_at self.old c) bits_frac };
 
     /// Every writer's interval is valid.

@@ -11,7 +11,7 @@ ghost use Rattle.av1_model.specs.Eighths.{eighths};
 ghost use Rattle.av1_model.specs.Interval.{narrow};
 ghost use Rattle.av1_model.specs.Position.{interval_of};
 ghost use Rattle.av1_ec.specs.Checkpoint.{reach};
-ghost use Rattle.av1_ec.specs.Storing.{HasBits, Keeps, Learns, StoresAll};
+ghost use Rattle.av1_ec.specs.Storing.{HasBits, Keeps, KeepsPositionsUpTo, KeepsReached, KeepsReachedUpTo, Learns, StoresAll};
 ghost use Rattle.av1_ec.specs.declared.storage.WriterCheckpoint.{WriterCheckpoint};
 ghost use Rattle.av1_ec.specs.Rate.{tell_at, tell_frac_at};
 ghost use Rattle.av1_ec.specs.Writing.{IsPosition, with_fake};
@@ -176,8 +176,8 @@ pub trait Writer: Known {
         ensures fake { (Self.position self.new).fake ≡ (Self.position self.old).fake }
         ensures spare { Self.spare self.old ≤ Self.spare self.new }
         ensures stored { Self.stored self.new ≡ reach checkpoint.now }
-        ensures reached { (c : WriterCheckpoint) → reach c ≤ reach checkpoint.now → Self.IsReached self.old c → Self.IsReached self.new c }
-        ensures kept { (c : WriterCheckpoint) → reach c ≤ reach checkpoint.now → Self.IsReached self.old c → Self.position_at self.new c ≡ Self.position_at self.old c };
+        ensures reached { KeepsReachedUpTo Self.Known (reach checkpoint.now) self.old self.new }
+        ensures kept { KeepsPositionsUpTo Self.Known (reach checkpoint.now) self.old self.new };
 
     /// How many eighths of a bit the symbols take so far. The fake bits are counted twice, whole ones as eighths and all of
     /// them as 256ths, as in rav1e.
@@ -196,7 +196,7 @@ pub trait Writer: Known {
         ensures position { Self.position self.new ≡ with_fake (Self.position self.old) bits_frac }
         ensures spare { Self.spare self.new ≡ Self.spare self.old }
         ensures stored { Self.stored self.new ≡ Self.stored self.old }
-        ensures reached { (c : WriterCheckpoint) → Self.IsReached self.old c → Self.IsReached self.new c }
+        ensures reached { KeepsReached Self.Known self.old self.new }
         ensures kept { (c : WriterCheckpoint) → Self.position_at self.new c ≡ with_fake (Self.position_at self.old c) bits_frac };
 
     /// Every writer's interval is valid.
