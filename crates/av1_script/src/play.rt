@@ -1,6 +1,6 @@
 // What a line does.
 ghost use Rattle.std.specs.Prelude.{◌≤◌};
-ghost use Rattle.av1_ec.specs.declared.storage.WriterCheckpoint.{WriterCheckpoint};
+ghost use Rattle.av1_ec.specs.Storing.{KeepsReached};
 
 use crate::args::up_to;
 use crate::call::{read_call, store};
@@ -24,7 +24,7 @@ pub fn numbers(alloc: Global, line: &str) -> Result<Vec<i64>> {
 // Adds fake bits, where the numbers are one that has room.
 fn add_bits_frac(w: &mut WriterBase<WriterEncoder>, numbers: &[i64]) -> Result<()>
     ensures stored { ⟦<WriterBase<WriterEncoder> as Known>⟧.stored w.old ≤ ⟦<WriterBase<WriterEncoder> as Known>⟧.stored w.new }
-    ensures reached { (c : WriterCheckpoint) → ⟦<WriterBase<WriterEncoder> as Known>⟧.IsReached w.old c → ⟦<WriterBase<WriterEncoder> as Known>⟧.IsReached w.new c }
+    ensures reached { KeepsReached ⟦<WriterBase<WriterEncoder> as Known>⟧ w.old w.new }
 {
     let &[bits_frac] = numbers else {
         bail!("not the numbers of bits_frac");
@@ -43,7 +43,7 @@ pub fn play(
     numbers: &[i64],
 ) -> Result<Option<u32>>
     ensures stored { ⟦<WriterBase<WriterEncoder> as Known>⟧.stored w.old ≤ ⟦<WriterBase<WriterEncoder> as Known>⟧.stored w.new }
-    ensures reached { (c : WriterCheckpoint) → ⟦<WriterBase<WriterEncoder> as Known>⟧.IsReached w.old c → ⟦<WriterBase<WriterEncoder> as Known>⟧.IsReached w.new c }
+    ensures reached { KeepsReached ⟦<WriterBase<WriterEncoder> as Known>⟧ w.old w.new }
 {
     if let Some(question) = read_question(alloc, name, numbers)? {
         return Ok(Some(answer(w, &question)));

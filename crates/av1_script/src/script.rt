@@ -1,7 +1,7 @@
 // The lines of a script in turn.
 ghost use Rattle.std.specs.Prelude.{◌≤◌, length, IfOk, OnOk};
 ghost use Rattle.av1_ec.specs.Checkpoint.{reach};
-ghost use Rattle.av1_ec.specs.declared.storage.WriterCheckpoint.{WriterCheckpoint};
+ghost use Rattle.av1_ec.specs.Storing.{KeepsReached, KeepsReachedUpTo};
 
 use crate::play::{numbers, play};
 use anyhow::{Result, bail};
@@ -24,7 +24,7 @@ fn play_line<P: Print>(
     line: &str,
 ) -> Result<()>
     ensures stored { OnOk result (⟦<WriterBase<WriterEncoder> as Known>⟧.stored w.old ≤ ⟦<WriterBase<WriterEncoder> as Known>⟧.stored w.new) }
-    ensures reached { OnOk result ((c : WriterCheckpoint) → ⟦<WriterBase<WriterEncoder> as Known>⟧.IsReached w.old c → ⟦<WriterBase<WriterEncoder> as Known>⟧.IsReached w.new c) }
+    ensures reached { OnOk result (KeepsReached ⟦<WriterBase<WriterEncoder> as Known>⟧ w.old w.new) }
 {
     let name = name_of(line);
     if name == "" {
@@ -48,7 +48,7 @@ fn play_trial<'a, P: Print>(
     requires reached { ⟦<WriterBase<WriterEncoder> as Known>⟧.IsReached w.old start.now }
     requires reach { reach start.now ≤ ⟦<WriterBase<WriterEncoder> as Known>⟧.stored w.old }
     ensures stored { OnOk result (reach start.now ≤ ⟦<WriterBase<WriterEncoder> as Known>⟧.stored w.new) }
-    ensures reached { OnOk result ((c : WriterCheckpoint) → reach c ≤ reach start.now → ⟦<WriterBase<WriterEncoder> as Known>⟧.IsReached w.old c → ⟦<WriterBase<WriterEncoder> as Known>⟧.IsReached w.new c) }
+    ensures reached { OnOk result (KeepsReachedUpTo ⟦<WriterBase<WriterEncoder> as Known>⟧ (reach start.now) w.old w.new) }
     ensures fewer { IfOk result (λ rest. length rest.now ≤ length lines.now) }
 {
     let mut left = lines;
