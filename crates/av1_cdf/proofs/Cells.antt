@@ -101,11 +101,11 @@ cell_of_row (f ∷ fs) start end h (suc i) d l j m a b =
     ap (λ b. cond b (record { place = f.place + (p - f.place) / n * n; len = n }) (cell_among fs p)) t ∙ cell_of_row fs _ end c.2 i d (omega arith) j m a b
 
 pub layout_rises : IsTrue (rises 0 layout size_of_context)
-unfolding layout fields vector_fields component_fields
+unfolding layout
 layout_rises = refl
 
 layout_length : length layout ≡ 72
-unfolding layout fields vector_fields component_fields
+unfolding layout
 layout_length = refl
 
 -- the CDF of a number within a run of the layout
@@ -282,7 +282,7 @@ short_among (f ∷ fs) k h =
 
 -- no CDF is longer than 16
 pub slot_short : (p l : ℕ) → IsTrue (is_slot p l) → l ≤ 16
-unfolding is_slot cell layout fields vector_fields component_fields
+unfolding is_slot cell layout
 slot_short p l h =
     let a = both_true (nat_le 2 l && nat_eq (cell p).place p) _ h in
     let e : (cell p).len ≡ l = eqb-true _ l a.1 in
@@ -312,7 +312,7 @@ run_fits i l = let w = run_within i (record { place = 0; count = 0; len = 0 }) l
 
 -- where a loop over all places begins
 pub first_run : HasOrEnds 0 0
-unfolding runs layout fields
+unfolding runs layout
 first_run = record { run = lit< tt; from = lit≤ tt; to = lit≤ tt }
 
 pub has_after : (i k : ℕ) → Has i k → HasOrEnds i (k + 1)

@@ -57,7 +57,7 @@ windows_among (f ∷ fs) p l h a b t =
     ]
 
 all_windows_fit : IsTrue (list_all windows_fit layout)
-unfolding layout fields vector_fields component_fields
+unfolding layout
 all_windows_fit = refl
 
 -- one check for each field: the window of a CDF lies in a region of its kind

@@ -30,7 +30,8 @@ with_counts_reset numbers = map (λ k. if is_count k then 0 else slice_index num
 
 -- a list with these numbers from one place up to another
 unfoldable pub written_between : List ℕ → ℕ → ℕ → List ℕ → List ℕ
-written_between numbers from to ws = map (λ k. if nat_le from k && nat_lt k to then slice_index ws (k - from) else slice_index numbers k) (range_with_len 0 (length numbers))
+written_between numbers from to ws =
+    map (λ k. if nat_le from k && nat_lt k to then slice_index ws (k - from) else slice_index numbers k) (range_with_len 0 (length numbers))
 
 -- a context with these numbers in a CDF
 abbrev pub with_contents : List ℕ → Slot → List ℕ → List ℕ

@@ -96,6 +96,7 @@ moved_on f = record f { place = f.place + component_size }
 
 -- all fields in order
 unfoldable pub layout : List Field
+unfolding fields vector_fields component_fields
 layout = fields ++ vector_fields ++ component_fields ++ map moved_on component_fields
 
 abbrev pub size_of_context : ℕ
@@ -138,10 +139,12 @@ cdf_of f indices = record { place = f.place + number_at f.dimensions indices * l
 
 -- the CDF of a field at these indices
 unfoldable pub slot : List ℕ → List ℕ → Slot
+unfolding layout
 slot name indices = cdf_of (named name layout) indices
 
 -- the CDF of a field of vectors in component 0 or 1, at these indices
 unfoldable pub component_slot : ℕ → List ℕ → List ℕ → Slot
+unfolding component_fields
 component_slot component name indices =
     let f = named name component_fields in
     cdf_of (record f { place = f.place + component_size * component }) indices

@@ -19,7 +19,8 @@ saves_of log = (small_saves log, large_saves log)
 -- the saves of a log to which that of a CDF is appended, in the part for its length
 abbrev pub saves_after : CDFContextLog → List ℕ → CDFOffset → List (Save 4) × List (Save 16)
 saves_after log context cdf =
-    if nat_le cdf.len 4 then (small_saves log ++ window 4 context cdf.place ∷ [], large_saves log) else (small_saves log, large_saves log ++ window 16 context cdf.place ∷ [])
+    if nat_le cdf.len 4 then (small_saves log ++ window 4 context cdf.place ∷ [], large_saves log)
+    else (small_saves log, large_saves log ++ window 16 context cdf.place ∷ [])
 
 -- how many saves a log has
 abbrev pub stored : CDFContextLog → ℕ

@@ -1,5 +1,6 @@
 -- The rules of the tables that a tile's context is made of.
-use Rattle.std.specs.Prelude.{ℕ, ◌+◌, ◌-◌, ◌*◌, List, [], ◌∷◌, Bool, ◌&&◌, ◌||◌, nat_eq, nat_lt, nat_le, if◌then◌else◌, length, slice_index, slice_index_or, codes}
+use Rattle.std.specs.Prelude.{ℕ, ◌+◌, ◌-◌, ◌*◌, List, [], ◌∷◌, length, slice_index, slice_index_or}
+use Rattle.std.specs.Prelude.{Bool, ◌&&◌, ◌||◌, nat_eq, nat_lt, nat_le, if◌then◌else◌, codes}
 use Rattle.std.specs.List.{list_all, list_any, range_with_len}
 use Rattle.av1_cdf.specs.Layout.{Field, layout, named, cell, count_in, length_in, size_of_context}
 use Rattle.av1_cdf.specs.Context.{is_count, uniform_numbers}
@@ -28,6 +29,7 @@ has_place f k = nat_le f.place k && nat_lt k (f.place + count_in f.dimensions * 
 
 -- whether a place lies in a field that differs by quantizer
 unfoldable pub is_coefficient : ℕ → Bool
+unfolding coefficient_fields
 is_coefficient k = list_any (λ name. has_place (named name layout) k) coefficient_fields
 
 abbrev pub of_size : List ℕ → Bool

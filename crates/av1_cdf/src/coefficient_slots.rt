@@ -1,5 +1,5 @@
 // Of coefficients, which differ by quantizer.
-#![tactic(auto, unfolding(crate::specs::Layout::slot, crate::specs::Layout::layout, crate::specs::Layout::fields, crate::specs::Layout::vector_fields, crate::specs::Layout::component_fields, crate::specs::Runs::has_run))]
+#![tactic(auto, unfolding(crate::specs::Layout::slot, crate::specs::Runs::has_run))]
 
 ghost use Rattle.std.specs.Prelude.{◌≡◌, ◌<◌, [], ◌∷◌, codes};
 ghost use Rattle.av1_cdf.specs.Layout.{slot};

@@ -218,7 +218,7 @@ static LAYOUT: [Run; RUNS] = [
 ];
 
 /// All runs by rising places.
-#[tactic(auto, unfolding(crate::specs::Runs::runs, crate::specs::Layout::layout, crate::specs::Layout::fields, crate::specs::Layout::vector_fields, crate::specs::Layout::component_fields))]
+#[tactic(auto, unfolding(crate::specs::Runs::runs, crate::specs::Layout::layout))]
 pub(crate) fn runs() -> &'static [Run; RUNS]
     ensures { result.now ≡ runs }
 {

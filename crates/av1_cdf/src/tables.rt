@@ -182,7 +182,7 @@ fn is_within(ranges: &[(usize, usize)], k: usize) -> bool
     ranges.iter().any(|range| range.0 <= k && k < range.1)
 }
 
-#[tactic(auto, unfolding(crate::specs::Tables::is_coefficient, crate::specs::Tables::coefficient_fields, crate::specs::Layout::layout, crate::specs::Layout::fields, crate::specs::Layout::vector_fields, crate::specs::Layout::component_fields))]
+#[tactic(auto, unfolding(crate::specs::Tables::is_coefficient, crate::specs::Layout::layout))]
 fn is_coefficient(k: usize) -> bool
     ensures { result ≡ is_coefficient k }
 {
