@@ -7,7 +7,7 @@ use Rattle.std.specs.List.{list_all, list_any}
 use Rattle.av1_cdf.specs.declared.run.Cell.{Cell}
 use Rattle.av1_cdf.specs.declared.run.Run.{Run}
 use Rattle.av1_cdf.specs.Slots.{cell_of}
-use Rattle.av1_cdf.specs.Layout.{Field, Slot, layout, fields, vector_fields, component_fields, count_in, length_in, cell_among, cell, is_slot, rises, size_of_context}
+use Rattle.av1_cdf.specs.Layout.{Field, Slot, layout, count_in, length_in, cell_among, cell, is_slot, rises, size_of_context}
 use Rattle.av1_cdf.specs.Runs.{run_of, runs, is_run, has_run, run_at, Has, HasOrEnds, IsBefore}
 
 pub both_true : (a b : Bool) → IsTrue (a && b) → IsTrue a × IsTrue b

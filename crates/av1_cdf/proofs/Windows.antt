@@ -3,7 +3,7 @@ use Rattle.std.proofs.Common.{◌≡◌, ℕ, ◌+◌, ◌-◌, ◌*◌, ◌/◌
 use Rattle.std.proofs.lemmas.Bool.Decides.{nat_tests}
 use Rattle.std.proofs.Math.Nat.{div-lt_iff_lt-mul}
 use Rattle.std.specs.List.{list_all}
-use Rattle.av1_cdf.specs.Layout.{Field, Slot, layout, fields, vector_fields, component_fields, count_in, length_in, cell_among, cell, is_slot}
+use Rattle.av1_cdf.specs.Layout.{Field, Slot, layout, count_in, length_in, cell_among, cell, is_slot}
 use Rattle.av1_cdf.specs.Windows.{is_short, short_windows, long_windows, windows_fit}
 use Rattle.av1_cdf.proofs.Cells.{both_true, either_true, is_le, is_lt, lt_is, lt_not, lt_or_not, le_is, within}
 

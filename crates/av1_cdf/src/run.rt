@@ -1,6 +1,6 @@
 // CDFs of one length, one after another, and the CDF that a place belongs to.
 ghost use Rattle.std.specs.Prelude.{◌≡◌, ◌<◌, ◌≤◌, ◌+◌, ◌*◌, ◌^◌, ◌&&◌, nat_eq, nat_le, IsTrue};
-ghost use Rattle.av1_cdf.specs.Runs.{run_at, has_run, Has, HasOrEnds, IsBefore};
+ghost use Rattle.av1_cdf.specs.Runs.{Has, HasOrEnds, IsBefore, end_of, has_run, is_in, run_at};
 ghost use Rattle.av1_cdf.specs.Slots.{cell_of};
 
 use crate::cdf_offset::CDFOffset;
@@ -37,7 +37,7 @@ impl Cell {
 fn run_at(run: usize) -> Run
     requires { run < 72 }
     ensures is { result ≡ run_at run }
-    ensures within { result.place + result.count * result.len ≤ 5528 }
+    ensures within { end_of result ≤ 5528 }
     ensures some { 0 < result.len }
 {
     runs()[run]
@@ -49,12 +49,7 @@ pub(crate) fn run_with(run: usize, k: usize) -> usize
     requires k { k < 5528 }
     ensures { Has result k }
 {
-    let at = run_at(run);
-    if k < at.place + at.count * at.len {
-        run
-    } else {
-        run + 1
-    }
+    if k < run_at(run).end() { run } else { run + 1 }
 }
 
 /// The CDF that a place belongs to, from that of the place before.
@@ -80,6 +75,23 @@ pub(crate) fn cell_with(run: usize, before: Cell, k: usize) -> Cell
 }
 
 impl Run {
+    /// The place past its end.
+    #[inline(always)]
+    pub(crate) fn end(self) -> usize
+        requires { end_of self ≤ 5528 }
+        ensures { result ≡ end_of self }
+    {
+        self.place + self.count * self.len
+    }
+
+    /// Whether one of its CDFs has a place.
+    pub(crate) fn has_place(self, k: usize) -> bool
+        requires { end_of self ≤ 5528 }
+        ensures { result ≡ is_in k self }
+    {
+        self.place <= k && k < self.end()
+    }
+
     /// The CDF with this number.
     #[tactic(auto, using(crate::proofs::Cells::slot_of_run, crate::proofs::Cells::place_within))]
     #[inline(always)]

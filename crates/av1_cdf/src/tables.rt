@@ -1,19 +1,18 @@
 // The tables of numbers that contexts are made of, one for each range of quantizers, and their rules.
 ghost use Rattle.std.specs.Prelude.{◌≡◌, None, ◌≤◌, ◌<◌, ◌+◌, ◌&&◌, ◌||◌, true, nat_eq, [], ◌∷◌, length, nat_le, nat_lt, option_map, IfOk};
-ghost use Rattle.std.specs.List.{list_any};
+ghost use Rattle.std.specs.List.{All, list_any};
+ghost use Rattle.av1_cdf.specs.Runs.{end_of, is_in};
 ghost use Rattle.av1_cdf.specs.Slots.{cell_of};
 ghost use Rattle.av1_cdf.specs.Tables.{table_rules, set_at, set_number, number_fits, valid_set, is_coefficient, same_at, sets_agree, uniform_sets};
 ghost use Rattle.av1_geometry.specs.Rules.{first_broken};
 
 use crate::cdf_context::{CDFContext, NUMBERS};
 use crate::layout::{
-    ANGLE_DELTA_CDF, COEFF_BASE_CDF, COEFF_BASE_EOB_CDF, COEFF_BR_CDF, DC_SIGN_CDF,
-    DEBLOCK_DELTA_CDF, DRL_CDFS, EOB_EXTRA_CDF, EOB_FLAG_CDF16, EOB_FLAG_CDF32, EOB_FLAG_CDF64,
-    EOB_FLAG_CDF128, EOB_FLAG_CDF256, EOB_FLAG_CDF512, EOB_FLAG_CDF1024, FILTER_INTRA_CDFS,
-    INTER_TX_2_CDF, INTRA_TX_1_CDF, INTRA_TX_2_CDF, LRF_SWITCHABLE_CDF, PARTITION_CDF,
-    SPATIAL_SEGMENTATION_CDFS, TXB_SKIP_CDF, TXFM_PARTITION_CDF,
+    COEFF_BASE_CDF, COEFF_BASE_EOB_CDF, COEFF_BR_CDF, DC_SIGN_CDF, EOB_EXTRA_CDF, EOB_FLAG_CDF16,
+    EOB_FLAG_CDF32, EOB_FLAG_CDF64, EOB_FLAG_CDF128, EOB_FLAG_CDF256, EOB_FLAG_CDF512,
+    EOB_FLAG_CDF1024, TXB_SKIP_CDF,
 };
-use crate::run::{Cell, cell_with, run_with};
+use crate::run::{Cell, Run, cell_with, run_with};
 use av1_geometry::{OutOfMemory, Rule};
 use std::alloc::Global;
 use std::marker::Model;
@@ -63,21 +62,21 @@ impl Tables {
     }
 }
 
-// First place and place past the end of each field that differs by quantizer.
-static COEFFICIENTS: [(usize, usize); 13] = [
-    (TXB_SKIP_CDF.place, TXFM_PARTITION_CDF.place),
-    (DC_SIGN_CDF.place, DRL_CDFS.place),
-    (EOB_EXTRA_CDF.place, FILTER_INTRA_CDFS.place),
-    (EOB_FLAG_CDF16.place, INTRA_TX_2_CDF.place),
-    (EOB_FLAG_CDF32.place, ANGLE_DELTA_CDF.place),
-    (EOB_FLAG_CDF64.place, INTRA_TX_1_CDF.place),
-    (EOB_FLAG_CDF128.place, SPATIAL_SEGMENTATION_CDFS.place),
-    (EOB_FLAG_CDF256.place, EOB_FLAG_CDF512.place),
-    (EOB_FLAG_CDF512.place, PARTITION_CDF.place),
-    (EOB_FLAG_CDF1024.place, INTER_TX_2_CDF.place),
-    (COEFF_BASE_EOB_CDF.place, LRF_SWITCHABLE_CDF.place),
-    (COEFF_BASE_CDF.place, COEFF_BR_CDF.place),
-    (COEFF_BR_CDF.place, DEBLOCK_DELTA_CDF.place),
+// The fields that differ by quantizer.
+static COEFFICIENTS: [Run; 13] = [
+    TXB_SKIP_CDF,
+    DC_SIGN_CDF,
+    EOB_EXTRA_CDF,
+    EOB_FLAG_CDF16,
+    EOB_FLAG_CDF32,
+    EOB_FLAG_CDF64,
+    EOB_FLAG_CDF128,
+    EOB_FLAG_CDF256,
+    EOB_FLAG_CDF512,
+    EOB_FLAG_CDF1024,
+    COEFF_BASE_EOB_CDF,
+    COEFF_BASE_CDF,
+    COEFF_BR_CDF,
 ];
 
 /// The broken rule of the lowest number: there are four sets of 5528 numbers (1), every CDF falls from below 32768
@@ -176,10 +175,11 @@ fn same_at(a: u16, b: u16, c: u16, d: u16) -> bool
     b == a && c == a && d == a
 }
 
-fn is_within(ranges: &[(usize, usize)], k: usize) -> bool
-    ensures { result ≡ list_any (λ range. nat_le range.0 k && nat_lt k range.1) ranges.now }
+fn is_within(runs: &[Run], k: usize) -> bool
+    requires { All (λ run. end_of run ≤ 5528) runs.now }
+    ensures { result ≡ list_any (is_in k) runs.now }
 {
-    ranges.iter().any(|range| range.0 <= k && k < range.1)
+    runs.iter().any(|run| run.has_place(k))
 }
 
 #[tactic(auto, unfolding(crate::specs::Tables::is_coefficient, crate::specs::Layout::layout))]
