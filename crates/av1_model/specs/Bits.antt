@@ -1,5 +1,6 @@
 -- Bits as AV1's syntax tables write them, the highest first, and the bytes that hold them.
-use Rattle.std.specs.Prelude.{◌≡◌, ℕ, zero, suc, ◌+◌, ◌-◌, ◌/◌, ◌%◌, ◌^◌, List, [], ◌∷◌, ◌++◌, Bool, false, nat_eq, if◌then◌else◌, length, replicate, map, not, ℤ, pos, negsuc}
+use Rattle.std.specs.Prelude.{◌≡◌, ℕ, zero, suc, ◌+◌, ◌-◌, ◌/◌, ◌%◌, ◌^◌, ℤ, pos, negsuc, List, [], ◌∷◌, ◌++◌, length, replicate, map}
+use Rattle.std.specs.Prelude.{Bool, false, not, nat_eq, if◌then◌else◌}
 
 -- whether bit k of v is set, where bit 0 is the lowest
 abbrev pub has_bit : ℕ → ℕ → Bool

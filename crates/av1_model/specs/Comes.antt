@@ -3,7 +3,7 @@ use Rattle.std.specs.Prelude.{◌≡◌, ℕ, ◌<◌, List, [], ◌∷◌, leng
 use Rattle.av1_model.specs.Cdf.{IsCdf, token_of}
 use Rattle.av1_model.specs.Position.{Position, advance}
 use Rattle.av1_model.specs.Reading.{Fits}
-use Rattle.av1_model.specs.Syntax.{Syntax, Leads, follow}
+use Rattle.av1_model.specs.Syntax.{Syntax, Leads, bind, follow}
 use Rattle.av1_model.specs.Syntax.Syntax.{Bad, Done, Ask}
 
 -- where a writer stands, and the context of adaptive distributions
@@ -49,6 +49,11 @@ module _ {Q C : Type 0} (contents : C → Q → List ℕ) (adapted : C → Q →
     pub comes : Comes tree left old new
     pub rest : List ℕ
     pub leads : Leads left rest a
+
+  -- a beginning within the first of two elements is one of both, where the second can lead to the answer
+  abbrev pub BeginsInFirst : {A B : Type 0} → Syntax Q A → (A → Syntax Q B) → A → B → Type 0
+  BeginsInFirst tree f a b =
+      (symbols : List ℕ) (old new : Standing C) → Leads (f a) symbols b → Begins tree a old new → Begins (bind tree f) b old new
 
   -- all of it, or its beginning where a call is refused
   abbrev pub Wrote : {A U E : Type 0} → Result U E → Syntax Q A → A → Standing C → Standing C → Type 0

@@ -5,7 +5,11 @@ use Rattle.av1_model.specs.Interval.{Interval, IsInterval}
 
 -- the interval of entries and a window that begins at 2^weight
 abbrev pub interval_of_window : List ℕ → ℕ → ℕ → ℕ → Interval
-interval_of_window entries low range weight = record { low = number_from_digits 256 entries * 2 ^ weight + low; range = range; shift = 8 * length entries + weight - 15 }
+interval_of_window entries low range weight = record {
+  low = number_from_digits 256 entries * 2 ^ weight + low;
+  range = range;
+  shift = 8 * length entries + weight - 15;
+}
 
 -- the window has room for the range, and the entries and the window make an interval
 pub record IsWindow (entries : List ℕ) (low range weight : ℕ) : Type 0 where

@@ -1,6 +1,6 @@
 //! Laws of what is known of a writer.
 
-ghost use Rattle.std.specs.Prelude.{◌≡◌, ℕ, ◌+◌, ◌*◌, ◌≤◌, ◌++◌, List, Some, All, length};
+ghost use Rattle.std.specs.Prelude.{◌≡◌, ◌+◌, ◌*◌, ◌≤◌, ◌++◌, List, Some, All, length};
 ghost use Rattle.av1_model.specs.Interval.{Interval, IsInterval, Token, IsToken, narrow};
 ghost use Rattle.av1_model.specs.Position.{Position, interval_of, advance, advance_all, encoder_at};
 

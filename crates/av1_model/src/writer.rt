@@ -1,8 +1,8 @@
 //! Laws of a writer on its way down a syntax tree.
 
 ghost use Rattle.std.specs.Prelude.{ℕ, List};
-ghost use Rattle.av1_model.specs.Comes.{Standing, Comes, Begins};
-ghost use Rattle.av1_model.specs.Syntax.{Syntax, Leads, bind};
+ghost use Rattle.av1_model.specs.Comes.{Begins, BeginsInFirst, Comes, Standing};
+ghost use Rattle.av1_model.specs.Syntax.{Syntax, bind};
 
 /// A writer comes to a tree and from there to another; and what comes within an element comes within all that begins with it.
 /// It is refused in an element after coming to it, or in the first of two where the second can follow.
@@ -13,6 +13,6 @@ pub fn law_of_writers<C, Q, A, B>()
         Comes contents adapted t u old new → Comes contents adapted (bind t f) (bind u f) old new }
     ensures refused_later { (contents : C → Q → List ℕ) (adapted : C → Q → ℕ → C) (t u : Syntax Q A) (a : A) (old mid new : Standing C) →
         Comes contents adapted t u old mid → Begins contents adapted u a mid new → Begins contents adapted t a old new }
-    ensures refused_first { (contents : C → Q → List ℕ) (adapted : C → Q → ℕ → C) (t : Syntax Q A) (f : A → Syntax Q B) (a : A) (b : B) (symbols : List ℕ) (old new : Standing C) →
-        Leads (f a) symbols b → Begins contents adapted t a old new → Begins contents adapted (bind t f) b old new }
+    ensures refused_first { (contents : C → Q → List ℕ) (adapted : C → Q → ℕ → C) (t : Syntax Q A) (f : A → Syntax Q B) (a : A) (b : B) →
+        BeginsInFirst contents adapted t f a b }
 {}
