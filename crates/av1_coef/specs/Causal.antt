@@ -40,5 +40,5 @@ abbrev pub IsCausal : TxSize → TxClass → List ℕ → ℕ → ℕ → Type 0
 IsCausal size class levels p context =
     let w = coded_width size in
     let h = coded_height size in
-    (at known : ℕ → ℕ) (scan : List ℕ) (i : ℕ) → IsPadded w h at levels → IsScan size class scan → i < length scan → slice_index scan i ≡ p → AlikeAfter scan i at known →
-    context ≡ range_context class (in_block w h known) (p / h) (p % h)
+    (at known : ℕ → ℕ) (scan : List ℕ) (i : ℕ) → IsPadded w h at levels → IsScan size class scan → i < length scan → slice_index scan i ≡ p →
+    AlikeAfter scan i at known → context ≡ range_context class (in_block w h known) (p / h) (p % h)

@@ -1,5 +1,6 @@
 -- The diagonal order of the positions of a block: by rising column and row together, then by rising column.
-use Rattle.std.specs.Prelude.{◌≡◌, ◌<◌, ℕ, zero, suc, ◌+◌, ◌-◌, ◌*◌, ◌/◌, ◌%◌, ◌&&◌, List, [], ◌∷◌, ◌++◌, true, map, nat_le, nat_lt, if◌then◌else◌, length, slice_index_or}
+use Rattle.std.specs.Prelude.{◌≡◌, ◌<◌, ℕ, zero, suc, ◌+◌, ◌-◌, ◌*◌, ◌/◌, ◌%◌, List, [], ◌∷◌, ◌++◌, map, length, slice_index_or}
+use Rattle.std.specs.Prelude.{true, ◌&&◌, nat_le, nat_lt, if◌then◌else◌}
 use Rattle.av1_geometry.specs.declared.tx_size.TxSize.{TxSize}
 use Rattle.av1_coef.specs.declared.scans.TheConstants.{TX_SIZES}
 use Rattle.av1_coef.specs.Contexts.{coded_width, coded_height}

@@ -1,5 +1,6 @@
 -- Levels as the code has them: columns one after another, each with places of padding below it.
-use Rattle.std.specs.Prelude.{◌≡◌, ℕ, ◌+◌, ◌-◌, ◌*◌, ◌/◌, ◌%◌, ◌<◌, ◌≤◌, ◌&&◌, List, Bool, nat_le, nat_lt, min, if◌then◌else◌, slice_index, length, map, ℤ, pos, unsigned_abs}
+use Rattle.std.specs.Prelude.{◌≡◌, ℕ, ◌+◌, ◌-◌, ◌*◌, ◌/◌, ◌%◌, ◌<◌, ◌≤◌, min, ℤ, pos, unsigned_abs, List, slice_index, length, map}
+use Rattle.std.specs.Prelude.{Bool, ◌&&◌, nat_le, nat_lt, if◌then◌else◌}
 use Rattle.std.specs.List.{range_with_len}
 use Rattle.av1_geometry.specs.declared.tx_size.TxSize.{TxSize}
 use Rattle.av1_geometry.specs.declared.tx_type.TxClass.{TxClass}

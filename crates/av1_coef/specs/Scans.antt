@@ -1,5 +1,6 @@
 -- Orders of the coefficients of a transform, and their rules. Position c * h + r is that of column c and row r, in columns of h rows.
-use Rattle.std.specs.Prelude.{◌≡◌, ℕ, zero, suc, ◌+◌, ◌*◌, ◌/◌, ◌%◌, ◌&&◌, ◌||◌, not, List, [], ◌∷◌, Bool, true, false, nat_eq, nat_lt, if◌then◌else◌, None, slice_index_or, length}
+use Rattle.std.specs.Prelude.{◌≡◌, ℕ, zero, suc, ◌+◌, ◌*◌, ◌/◌, ◌%◌, ◌<◌, List, [], ◌∷◌, slice_index, slice_index_or, length, None}
+use Rattle.std.specs.Prelude.{Bool, true, false, ◌&&◌, ◌||◌, not, nat_eq, nat_lt, if◌then◌else◌}
 use Rattle.std.specs.List.{list_all}
 use Rattle.av1_geometry.specs.declared.tx_size.TxSize.{TxSize}
 use Rattle.av1_coef.specs.declared.scans.TheConstants.{TX_SIZES}
@@ -54,6 +55,10 @@ scan_rules size class scan = rule 4 (is_whole size class scan) ∷ rule 5 (is_or
 abbrev pub IsScan : TxSize → TxClass → List ℕ → Type 0
 IsScan size class scan = first_broken (scan_rules size class scan) ≡ None
 
+-- the position at a place of a scan is that of a coded coefficient
+abbrev pub IsCodedAt : TxSize → List ℕ → ℕ → Type 0
+IsCodedAt size scan i = i < length scan → slice_index scan i < coded_area size
+
 abbrev pub class_number : TxClass → ℕ
 class_number TX_CLASS_2D = 0
 class_number TX_CLASS_HORIZ = 1
@@ -77,3 +82,7 @@ of_each scans = nat_eq (length scans) 19 && list_all (λ (of_size : List (List �
 -- the rules of all scans
 abbrev pub scans_rules : List (List (List ℕ)) → List Check
 scans_rules scans = rule 4 (of_each scans && all_scans is_whole scans) ∷ rule 5 (all_scans is_ordered scans) ∷ []
+
+-- scans that break none
+abbrev pub AreScans : List (List (List ℕ)) → Type 0
+AreScans scans = first_broken (scans_rules scans) ≡ None

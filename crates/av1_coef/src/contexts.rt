@@ -1,10 +1,11 @@
 // The contexts of levels, from padded levels.
-ghost use Rattle.std.specs.Prelude.{◌≡◌, ℕ, ◌+◌, ◌*◌, ◌/◌, ◌%◌, ◌^◌, ◌<◌, ◌≤◌, ◌++◌, length, slice_index, map, drop, min, pos, if◌then◌else◌};
+ghost use Rattle.std.specs.Prelude.{◌≡◌, ℕ, ◌+◌, ◌*◌, ◌/◌, ◌%◌, ◌^◌, ◌<◌, ◌≤◌, ◌++◌, length, slice_index, drop, min};
 ghost use Rattle.av1_geometry.specs.declared.tx_size.TxSize.{TxSize};
 ghost use Rattle.av1_geometry.specs.CoefficientTables.{nz_offset, nz_offset_1d};
 ghost use Rattle.av1_coef.specs.Causal.{AreCausal, IsCausal};
-ghost use Rattle.std.specs.List.{range_with_len};
-ghost use Rattle.av1_coef.specs.Contexts.{near_sum, base_steps, base_context, range_magnitude, range_offset, range_context, is_low, is_corner, place_offset, last_context, scan_context, coded_width, coded_height, coded_height_log2, coded_area};
+ghost use Rattle.av1_coef.specs.Contexts.{base_steps, is_corner, is_low, last_context, near_sum, place_offset};
+ghost use Rattle.av1_coef.specs.Contexts.{range_context, range_magnitude, range_offset};
+ghost use Rattle.av1_coef.specs.Contexts.{coded_area, coded_height, coded_height_log2, coded_width};
 ghost use Rattle.av1_coef.specs.Padded.{level_in, padded_context, padded_contexts};
 
 use crate::ends::get_txb_bhl;

@@ -1,11 +1,10 @@
 // The diagonal order of every size, which keeps what a context of any class reads for later.
-ghost use Rattle.std.specs.Prelude.{◌≡◌, ◌*◌, ◌<◌, ◌≤◌, None, IfOk, IsTrue};
+ghost use Rattle.std.specs.Prelude.{◌≡◌, ◌*◌, ◌<◌, ◌≤◌, IfOk, IsTrue};
 ghost use Rattle.av1_geometry.specs.declared.tx_size.TxSize.{TxSize};
 ghost use Rattle.av1_geometry.specs.declared.tx_type.TxClass.{TxClass};
-ghost use Rattle.av1_geometry.specs.Rules.{first_broken};
 ghost use Rattle.av1_coef.specs.Contexts.{coded_width, coded_height};
 ghost use Rattle.av1_coef.specs.Diagonal.{IsDiagonal, AreDiagonal, diagonal_scans};
-ghost use Rattle.av1_coef.specs.Scans.{scans_rules, scan_of, of_each};
+ghost use Rattle.av1_coef.specs.Scans.{AreScans, of_each, scan_of};
 
 use crate::scans::{Scan, Scans, TX_SIZES};
 use av1_geometry::{OutOfMemory, TxSize, av1_get_coded_tx_size};
@@ -47,7 +46,7 @@ pub fn diagonal(alloc: Global) -> Result<Scans, OutOfMemory>
     ensures value { IfOk result (λ s. s ≡ diagonal_scans) }
     ensures each { IfOk result (λ s. IsTrue (of_each s)) }
     ensures diagonal { IfOk result (λ s. (size : TxSize) (class : TxClass) → IsDiagonal (coded_width size) (coded_height size) (scan_of s size class)) }
-    ensures passes { IfOk result (λ s. first_broken (scans_rules s) ≡ None) }
+    ensures passes { IfOk result (λ s. AreScans s) }
 {
     let mut scans = Vec::with_capacity(alloc, TxSize::TX_SIZES_ALL)?;
     for tx_size in &TX_SIZES {

@@ -1,9 +1,11 @@
 // Orders of the coefficients of a transform, and their rules.
-ghost use Rattle.std.specs.Prelude.{◌≡◌, ℕ, ◌+◌, ◌*◌, ◌/◌, ◌%◌, ◌<◌, ◌≤◌, slice_index_or, true, false, ◌&&◌, ◌||◌, nat_eq, nat_lt, if◌then◌else◌, IsTrue, length};
+ghost use Rattle.std.specs.Prelude.{◌≡◌, ℕ, ◌+◌, ◌*◌, ◌/◌, ◌%◌, ◌<◌, ◌≤◌, slice_index_or, length, IsTrue};
+ghost use Rattle.std.specs.Prelude.{true, false, ◌&&◌, ◌||◌, nat_eq, nat_lt, if◌then◌else◌};
 ghost use Rattle.std.specs.List.{list_all};
 ghost use Rattle.av1_geometry.specs.Rules.{first_broken};
 ghost use Rattle.av1_coef.specs.Contexts.{base_steps};
-ghost use Rattle.av1_coef.specs.Scans.{is_permutation, steps_later, keeps_order, scan_rules, scans_rules, scan_of, of_each, all_scans, is_whole, is_ordered, classes, class_number};
+ghost use Rattle.av1_coef.specs.Scans.{all_scans, class_number, classes, of_each, scan_of, scans_rules};
+ghost use Rattle.av1_coef.specs.Scans.{is_ordered, is_permutation, is_whole, keeps_order, scan_rules, steps_later};
 
 use av1_geometry::TxClass::{TX_CLASS_2D, TX_CLASS_HORIZ, TX_CLASS_VERT};
 use av1_geometry::TxSize::*;
