@@ -1,5 +1,5 @@
 // The tables of numbers that contexts are made of, one for each range of quantizers, and their rules.
-ghost use Rattle.std.specs.Prelude.{◌≡◌, None, ◌≤◌, ◌<◌, ◌+◌, ◌&&◌, ◌||◌, true, nat_eq, [], ◌∷◌, length, nat_le, nat_lt, option_map, IfOk};
+ghost use Rattle.std.specs.Prelude.{◌≡◌, None, ◌≤◌, ◌<◌, ◌+◌, ◌&&◌, ◌||◌, true, nat_eq, [], ◌∷◌, length, IfOk};
 ghost use Rattle.std.specs.List.{All, list_any};
 ghost use Rattle.av1_cdf.specs.Runs.{end_of, is_in};
 ghost use Rattle.av1_cdf.specs.Slots.{cell_of};

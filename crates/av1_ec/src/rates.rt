@@ -1,5 +1,5 @@
 // One rate for all writers.
-ghost use Rattle.std.specs.Prelude.{◌≡◌, ℕ, ◌+◌, ◌^◌, ◌≤◌, All, Bool, List};
+ghost use Rattle.std.specs.Prelude.{◌≡◌, ℕ, ◌^◌, ◌≤◌, All, Bool, List};
 ghost use Rattle.av1_model.specs.Interval.{Token, IsToken, whole};
 ghost use Rattle.av1_model.specs.Position.{Position, advance, advance_all, encoder_at};
 ghost use Rattle.av1_ec.specs.Rate.{AfterReplay, narrow_all, new_counter, new_encoder, new_recorder, tell_at, tell_frac_at, told};

@@ -1,5 +1,5 @@
 // The recorder: the tokens in order, and the range and how many bits were shifted out, as an encoder's.
-ghost use Rattle.std.specs.Prelude.{◌≡◌, ℕ, ◌+◌, ◌-◌, ◌^◌, ◌<◌, ◌≤◌, ◌++◌, ◌∷◌, [], IsOk, OnOk, OnErr, length, take, vec_len, vec_capacity};
+ghost use Rattle.std.specs.Prelude.{◌≡◌, ◌+◌, ◌-◌, ◌<◌, ◌≤◌, ◌++◌, ◌∷◌, [], IsOk, OnOk, OnErr, length, take, vec_len, vec_capacity};
 ghost use Rattle.av1_ec.specs.Recorder.{IsRecorded, IsRecording, recorder_position, token_in, tokens_in};
 ghost use Rattle.av1_model.specs.Interval.{IsToken};
 ghost use Rattle.av1_ec.specs.Checkpoint.{KeepsCheckpoints};

@@ -1,5 +1,5 @@
 // The calls that are the same for every storage.
-ghost use Rattle.std.specs.Prelude.{◌≡◌, ℕ, ◌+◌, ◌*◌, ◌^◌, ◌<◌, ◌≤◌, [], ◌∷◌, length, nat_eq, max, pos, ◌-ℤ◌, ◌≤ℤ◌, ◌<ℤ◌};
+ghost use Rattle.std.specs.Prelude.{◌≡◌, ◌+◌, ◌*◌, ◌^◌, ◌<◌, ◌≤◌, [], ◌∷◌, length, nat_eq, max, pos, ◌-ℤ◌, ◌≤ℤ◌, ◌<ℤ◌};
 ghost use Rattle.av1_cdf.specs.Context.{contents};
 ghost use Rattle.av1_cdf.specs.Slots.{slot_of};
 ghost use Rattle.av1_codes.specs.Codes.{golomb, refsubexp_between};
@@ -11,7 +11,7 @@ ghost use Rattle.av1_model.specs.Eighths.{eighths};
 ghost use Rattle.av1_model.specs.Interval.{narrow};
 ghost use Rattle.av1_model.specs.Position.{interval_of};
 ghost use Rattle.av1_ec.specs.Checkpoint.{reach};
-ghost use Rattle.av1_ec.specs.Storing.{HasBits, Keeps, KeepsPositionsUpTo, KeepsReached, KeepsReachedUpTo, Learns, StoresAll};
+ghost use Rattle.av1_ec.specs.Storing.{HasBits, KeepsPositionsUpTo, KeepsReached, KeepsReachedUpTo, Learns, StoresAll};
 ghost use Rattle.av1_ec.specs.declared.storage.WriterCheckpoint.{WriterCheckpoint};
 ghost use Rattle.av1_ec.specs.Rate.{tell_at, tell_frac_at};
 ghost use Rattle.av1_ec.specs.Writing.{IsPosition, with_fake};
