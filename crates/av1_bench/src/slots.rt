@@ -1,5 +1,5 @@
 // The CDFs of a context that learn from the symbols, one for each size.
-#![tactic(auto, unfolding(av1_cdf::specs::Layout::slot, av1_cdf::specs::Layout::layout, av1_cdf::specs::Layout::fields, av1_cdf::specs::Layout::vector_fields, av1_cdf::specs::Layout::component_fields))]
+#![tactic(auto, unfolding(av1_cdf::specs::Layout::slot))]
 
 ghost use Rattle.std.specs.Prelude.{◌≤◌};
 

@@ -1,5 +1,5 @@
 // The numbers of a line, as what a call takes.
-ghost use Rattle.std.specs.Prelude.{◌≤◌, ◌≤ℤ◌, ◌<ℤ◌, FitsSigned, IsTrue, IfOk, IfSome};
+ghost use Rattle.std.specs.Prelude.{◌≤◌, FitsSigned, IsTrue, IfOk, IfSome};
 ghost use Rattle.std.specs.Int.{w32};
 ghost use Rattle.av1_model.specs.Cdf.{IsCdf};
 ghost use Rattle.av1_script.specs.Allowed.{IsBetween, IsSymbol};
