@@ -1,5 +1,6 @@
 -- The contexts of a transform block by the coefficient edges (AV1 specification, "CDF selection process": all_zero and dc_sign).
-use Rattle.std.specs.Prelude.{ℕ, ◌+◌, ◌/◌, ◌%◌, ◌^◌, List, [], Bool, not, ◌&&◌, min, max, fold, count_by, nat_eq, nat_lt, nat_le, if◌then◌else◌, slice_index_or, slice_range, ℤ, int_lt, pos}
+use Rattle.std.specs.Prelude.{ℕ, ◌+◌, ◌/◌, ◌%◌, ◌^◌, List, [], Bool, not, ◌&&◌, min, max, fold, count_by}
+use Rattle.std.specs.Prelude.{nat_eq, nat_lt, nat_le, if◌then◌else◌, slice_index_or, slice_range, ℤ, int_lt, pos}
 use Rattle.std.specs.List.{list_any}
 use Rattle.av1_geometry.specs.declared.block_offset.BlockOffset.{BlockOffset}
 use Rattle.av1_geometry.specs.declared.block_size.BlockSize.{BlockSize}
@@ -64,6 +65,8 @@ entries_left bc plane bo ydec height = let y = bo.y % 16 / 2 ^ ydec in slice_ran
 -- both contexts of a transform block in a plane, by what stands above and to the left
 abbrev pub txb_context : ℕ → BlockSize → TxSize → List ℕ → List ℕ → TXB_CTX
 txb_context plane size tx above left = record {
-  txb_skip_ctx = if nat_eq plane 0 then luma_skip_context (has_sides size tx) (greatest above) (greatest left) else chroma_skip_context (is_larger size tx) above left;
+  txb_skip_ctx =
+      if nat_eq plane 0 then luma_skip_context (has_sides size tx) (greatest above) (greatest left)
+      else chroma_skip_context (is_larger size tx) above left;
   dc_sign_ctx = dc_sign_context above left;
 }

@@ -1,5 +1,6 @@
 -- What the blocks above and to the left leave for the contexts of the next ones, by columns of the tile and by rows of the superblock.
-use Rattle.std.specs.Prelude.{◌≡◌, ℕ, ◌+◌, ◌-◌, ◌*◌, ◌/◌, ◌%◌, ◌^◌, ◌<◌, List, [], Bool, false, max, nat_eq, if◌then◌else◌, length, replicate, slice_index_or, slice_range}
+use Rattle.std.specs.Prelude.{◌≡◌, ℕ, ◌+◌, ◌-◌, ◌*◌, ◌/◌, ◌%◌, ◌^◌, ◌<◌, List, [], Bool, false, max}
+use Rattle.std.specs.Prelude.{nat_eq, if◌then◌else◌, length, replicate, slice_index_or, slice_range}
 use Rattle.av1_geometry.specs.declared.block_offset.BlockOffset.{BlockOffset}
 use Rattle.av1_geometry.specs.declared.block_size.BlockSize.{BlockSize}
 use Rattle.av1_geometry.specs.declared.chroma_sampling.ChromaSampling.{ChromaSampling}

@@ -108,7 +108,8 @@ left_is p g bo = not (bo.x == 0) && p (block_at g (bo.x - 1) bo.y)
 abbrev pub skip_context : Grid → BlockOffset → ℕ
 skip_context g bo = (if above_is (λ b. b.skip) g bo then 1 else 0) + (if left_is (λ b. b.skip) g bo then 1 else 0)
 
--- how the blocks above and to the left are predicted (the same section: is_inter): 3 where both are intra, 1 where one of two is, 2 where the only one is, else 0
+-- how the blocks above and to the left are predicted (the same section: is_inter): 3 where both are intra, 1 where one of two is,
+-- 2 where the only one is, else 0
 abbrev pub intra_inter_context : Grid → BlockOffset → ℕ
 intra_inter_context g bo =
     let above = above_is (λ b. not (is_inter b)) g bo in

@@ -1,9 +1,11 @@
 -- The numbers of the kinds of OBUs.
 use Rattle.std.specs.Prelude.{ℕ}
 use Rattle.av1_frame.specs.declared.obu.ObuType.{ObuType}
-use Rattle.av1_frame.specs.declared.obu.ObuType.TheVariants.{OBU_SEQUENCE_HEADER, OBU_TEMPORAL_DELIMITER, OBU_FRAME_HEADER, OBU_TILE_GROUP, OBU_METADATA, OBU_FRAME, OBU_REDUNDANT_FRAME_HEADER, OBU_TILE_LIST, OBU_PADDING}
+use Rattle.av1_frame.specs.declared.obu.ObuType.TheVariants.{OBU_SEQUENCE_HEADER, OBU_TEMPORAL_DELIMITER, OBU_FRAME_HEADER, OBU_TILE_GROUP}
+use Rattle.av1_frame.specs.declared.obu.ObuType.TheVariants.{OBU_METADATA, OBU_FRAME, OBU_REDUNDANT_FRAME_HEADER, OBU_TILE_LIST, OBU_PADDING}
 use Rattle.av1_frame.specs.declared.obu.ObuMetaType.{ObuMetaType}
-use Rattle.av1_frame.specs.declared.obu.ObuMetaType.TheVariants.{OBU_META_HDR_CLL, OBU_META_HDR_MDCV, OBU_META_SCALABILITY, OBU_META_ITUT_T35, OBU_META_TIMECODE}
+use Rattle.av1_frame.specs.declared.obu.ObuMetaType.TheVariants.{OBU_META_HDR_CLL, OBU_META_HDR_MDCV}
+use Rattle.av1_frame.specs.declared.obu.ObuMetaType.TheVariants.{OBU_META_SCALABILITY, OBU_META_ITUT_T35, OBU_META_TIMECODE}
 
 -- obu_type
 abbrev pub obu_type_number : ObuType → ℕ

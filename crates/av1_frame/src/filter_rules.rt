@@ -1,7 +1,8 @@
 // The rules of filters.
 ghost use Rattle.std.specs.Prelude.{◌≡◌};
 ghost use Rattle.std.specs.List.{list_all};
-ghost use Rattle.av1_frame.specs.FilterRules.{deblock_fits, six_bits, level_delta_fits, cdef_fits, is_restored, chroma_is_restored, units_fit, type_fits, restoration_fits};
+ghost use Rattle.av1_frame.specs.FilterRules.{deblock_fits, six_bits, level_delta_fits, cdef_fits};
+ghost use Rattle.av1_frame.specs.FilterRules.{is_restored, chroma_is_restored, units_fit, type_fits, restoration_fits};
 ghost use Rattle.av1_frame.specs.SequenceRules.{is_420};
 
 use crate::frame::FrameInvariants;

@@ -1,6 +1,7 @@
 // The rule of film grain.
 ghost use Rattle.std.specs.Prelude.{◌≡◌};
-ghost use Rattle.av1_frame.specs.GrainRules.{grain_fits, grain_numbers_fit, codes_chroma_points, chroma_points_fit, points_fit, luma_positions, chroma_positions, codes_chroma_coefficients, coefficients_fit, coefficient_lists_fit, has_points};
+ghost use Rattle.av1_frame.specs.GrainRules.{grain_fits, grain_numbers_fit, codes_chroma_points, chroma_points_fit, points_fit, luma_positions};
+ghost use Rattle.av1_frame.specs.GrainRules.{chroma_positions, codes_chroma_coefficients, coefficients_fit, coefficient_lists_fit, has_points};
 
 use crate::film_grain::FilmGrain;
 use crate::sequence::Sequence;

@@ -3,7 +3,9 @@ ghost use Rattle.std.specs.Prelude.{◌≡◌, ◌+◌, ◌*◌, ◌^◌, ◌≤
 ghost use Rattle.std.specs.List.{list_all};
 ghost use Rattle.av1_geometry.specs.Rules.{first_broken};
 ghost use Rattle.av1_frame.specs.FrameKind.{is_key, is_intra_only, is_switch, is_intra, primary_reference};
-ghost use Rattle.av1_frame.specs.HeaderRules.{header_rules, sides_fit, blocks, side_fits, frame_is_carried, showing_fits, intra_fits, primary_fits, forces_are_kept, hints_fit, reference_hint_fits, refresh_fits, override_fits, render_fits, place_fits, references_fit, frame_end_fits};
+ghost use Rattle.av1_frame.specs.HeaderRules.{header_rules, sides_fit, blocks, side_fits, frame_is_carried, showing_fits};
+ghost use Rattle.av1_frame.specs.HeaderRules.{intra_fits, primary_fits, forces_are_kept, hints_fit, reference_hint_fits};
+ghost use Rattle.av1_frame.specs.HeaderRules.{refresh_fits, override_fits, render_fits, place_fits, references_fit, frame_end_fits};
 
 use crate::frame::FrameInvariants;
 use crate::reference::{ALL_REF_FRAMES_MASK, PRIMARY_REF_NONE, RefState, Refs};

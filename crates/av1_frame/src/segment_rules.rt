@@ -1,7 +1,8 @@
 // The rules of quantizers and segments.
 ghost use Rattle.std.specs.Prelude.{◌≡◌, ◌<◌};
 ghost use Rattle.std.specs.List.{list_all, range_with_len};
-ghost use Rattle.av1_frame.specs.SegmentRules.{quantizer_fits, delta_fits, value_fits, feature_fits, segment_fits, segment_at_fits, segments_fit, is_active, ends_before, last_segment_fits, segmentation_fits};
+ghost use Rattle.av1_frame.specs.SegmentRules.{quantizer_fits, delta_fits, value_fits, feature_fits, segment_fits};
+ghost use Rattle.av1_frame.specs.SegmentRules.{segment_at_fits, segments_fit, is_active, ends_before, last_segment_fits, segmentation_fits};
 
 use crate::frame::FrameInvariants;
 use crate::reference::PRIMARY_REF_NONE;

@@ -1,7 +1,9 @@
 // The rules of a sequence, each a function of its own.
 ghost use Rattle.std.specs.Prelude.{◌≡◌};
 ghost use Rattle.av1_geometry.specs.Rules.{first_broken};
-ghost use Rattle.av1_frame.specs.SequenceRules.{sequence_rules, known_profile, reduced_is_still, reduced_has_defaults, is_carried, time_base_fits, tools_fit, samples_fit, srgb_fits, position_fits, is_srgb, in_main, in_high, in_professional, is_420, is_monochrome, is_full, has_inter_tools, forces_fit};
+ghost use Rattle.av1_frame.specs.SequenceRules.{sequence_rules, known_profile, reduced_is_still, reduced_has_defaults, is_carried};
+ghost use Rattle.av1_frame.specs.SequenceRules.{time_base_fits, tools_fit, samples_fit, srgb_fits, position_fits, is_srgb, in_main};
+ghost use Rattle.av1_frame.specs.SequenceRules.{in_high, in_professional, is_420, is_monochrome, is_full, has_inter_tools, forces_fit};
 
 use crate::sequence::{ColorDescription, Sequence};
 use av1_geometry::{ChromaSampling, PixelRange, Rule};

@@ -1,7 +1,10 @@
 -- The sizes of a block: their numbers, and their sides as powers of two.
 use Rattle.std.specs.Prelude.{ℕ, ◌-◌, ◌^◌, Option, slice_get, nat_eq, ◌&&◌, find}
 use Rattle.av1_geometry.specs.declared.block_size.BlockSize.{BlockSize}
-use Rattle.av1_geometry.specs.declared.block_size.BlockSize.TheVariants.{BLOCK_4X4, BLOCK_4X8, BLOCK_8X4, BLOCK_8X8, BLOCK_8X16, BLOCK_16X8, BLOCK_16X16, BLOCK_16X32, BLOCK_32X16, BLOCK_32X32, BLOCK_32X64, BLOCK_64X32, BLOCK_64X64, BLOCK_64X128, BLOCK_128X64, BLOCK_128X128, BLOCK_4X16, BLOCK_16X4, BLOCK_8X32, BLOCK_32X8, BLOCK_16X64, BLOCK_64X16}
+use Rattle.av1_geometry.specs.declared.block_size.BlockSize.TheVariants.{BLOCK_4X4, BLOCK_4X8, BLOCK_8X4, BLOCK_8X8, BLOCK_8X16, BLOCK_16X8}
+use Rattle.av1_geometry.specs.declared.block_size.BlockSize.TheVariants.{BLOCK_16X16, BLOCK_16X32, BLOCK_32X16, BLOCK_32X32, BLOCK_32X64}
+use Rattle.av1_geometry.specs.declared.block_size.BlockSize.TheVariants.{BLOCK_64X32, BLOCK_64X64, BLOCK_64X128, BLOCK_128X64, BLOCK_128X128}
+use Rattle.av1_geometry.specs.declared.block_size.BlockSize.TheVariants.{BLOCK_4X16, BLOCK_16X4, BLOCK_8X32, BLOCK_32X8, BLOCK_16X64, BLOCK_64X16}
 use Rattle.av1_geometry.specs.declared.block_size.TheConstants.{ALL_SIZES}
 
 -- the size with this number

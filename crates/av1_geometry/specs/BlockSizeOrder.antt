@@ -7,7 +7,10 @@ use Rattle.std.specs.Cmp.{IsPartialOrder, nat_cmp_total, on_total, ranked}
 use denote.Enum.Bare.{sameb, same_true, true_same}
 use Rattle.av1_geometry.specs.contracts.block_size.BlockSize.{the_type}
 use Rattle.av1_geometry.specs.declared.block_size.BlockSize.{BlockSize}
-use Rattle.av1_geometry.specs.declared.block_size.BlockSize.TheVariants.{BLOCK_4X4, BLOCK_4X8, BLOCK_8X4, BLOCK_8X8, BLOCK_8X16, BLOCK_16X8, BLOCK_16X16, BLOCK_16X32, BLOCK_32X16, BLOCK_32X32, BLOCK_32X64, BLOCK_64X32, BLOCK_64X64, BLOCK_64X128, BLOCK_128X64, BLOCK_128X128, BLOCK_4X16, BLOCK_16X4, BLOCK_8X32, BLOCK_32X8, BLOCK_16X64, BLOCK_64X16}
+use Rattle.av1_geometry.specs.declared.block_size.BlockSize.TheVariants.{BLOCK_4X4, BLOCK_4X8, BLOCK_8X4, BLOCK_8X8, BLOCK_8X16, BLOCK_16X8}
+use Rattle.av1_geometry.specs.declared.block_size.BlockSize.TheVariants.{BLOCK_16X16, BLOCK_16X32, BLOCK_32X16, BLOCK_32X32, BLOCK_32X64}
+use Rattle.av1_geometry.specs.declared.block_size.BlockSize.TheVariants.{BLOCK_64X32, BLOCK_64X64, BLOCK_64X128, BLOCK_128X64, BLOCK_128X128}
+use Rattle.av1_geometry.specs.declared.block_size.BlockSize.TheVariants.{BLOCK_4X16, BLOCK_16X4, BLOCK_8X32, BLOCK_32X8, BLOCK_16X64, BLOCK_64X16}
 use Rattle.av1_geometry.specs.BlockSize.{width_log2, height_log2, with_sides}
 use Rattle.av1_geometry.specs.Sides.{by_sides}
 use Rattle.av1_geometry.specs.SidesOrder.{ordered}

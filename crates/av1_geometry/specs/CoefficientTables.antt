@@ -3,7 +3,8 @@ use Rattle.std.specs.Prelude.{◌≡◌, ℕ, ◌+◌, ◌-◌, ◌*◌, ◌^◌
 use Rattle.std.specs.List.{range_with_len}
 use Rattle.av1_geometry.specs.declared.tx_size.TxSize.{TxSize}
 use Rattle.av1_geometry.specs.declared.tx_size.TheConstants.{ALL_TX_SIZES}
-use Rattle.av1_geometry.specs.declared.coefficient_tables.TheConstants.{eob_to_pos_small, eob_to_pos_large, k_eob_group_start, k_eob_offset_bits, av1_nz_map_ctx_offset, nz_map_ctx_offset_1d}
+use Rattle.av1_geometry.specs.declared.coefficient_tables.TheConstants.{eob_to_pos_small, eob_to_pos_large, k_eob_group_start}
+use Rattle.av1_geometry.specs.declared.coefficient_tables.TheConstants.{k_eob_offset_bits, av1_nz_map_ctx_offset, nz_map_ctx_offset_1d}
 use Rattle.av1_geometry.specs.TxSize.{tx_width_log2, tx_height_log2}
 
 -- the least end of a class: 0, 1, 2, and then one more than a power of two
@@ -48,7 +49,8 @@ abbrev pub LargeEnds : Type 0
 LargeEnds = eob_to_pos_large ≡ map (λ i. eob_class (32 * i + 32)) (range_with_len 0 17)
 
 abbrev pub OffsetsByShape : Type 0
-OffsetsByShape = av1_nz_map_ctx_offset ≡ map (λ size. map (λ row. map (λ column. pos (nz_offset size row column)) (range_with_len 0 5)) (range_with_len 0 5)) ALL_TX_SIZES
+OffsetsByShape =
+    av1_nz_map_ctx_offset ≡ map (λ size. map (λ row. map (λ column. pos (nz_offset size row column)) (range_with_len 0 5)) (range_with_len 0 5)) ALL_TX_SIZES
 
 abbrev pub OffsetsInOneDimension : Type 0
 OffsetsInOneDimension = nz_map_ctx_offset_1d ≡ map nz_offset_1d (range_with_len 0 32)

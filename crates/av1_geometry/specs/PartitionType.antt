@@ -1,7 +1,9 @@
 -- The partitions of a block: their numbers, and how often they halve its sides.
 use Rattle.std.specs.Prelude.{ℕ, Option, slice_get}
 use Rattle.av1_geometry.specs.declared.partition_type.PartitionType.{PartitionType}
-use Rattle.av1_geometry.specs.declared.partition_type.PartitionType.TheVariants.{PARTITION_NONE, PARTITION_HORZ, PARTITION_VERT, PARTITION_SPLIT, PARTITION_HORZ_A, PARTITION_HORZ_B, PARTITION_VERT_A, PARTITION_VERT_B, PARTITION_HORZ_4, PARTITION_VERT_4}
+use Rattle.av1_geometry.specs.declared.partition_type.PartitionType.TheVariants.{PARTITION_NONE, PARTITION_HORZ, PARTITION_VERT}
+use Rattle.av1_geometry.specs.declared.partition_type.PartitionType.TheVariants.{PARTITION_SPLIT, PARTITION_HORZ_A, PARTITION_HORZ_B}
+use Rattle.av1_geometry.specs.declared.partition_type.PartitionType.TheVariants.{PARTITION_VERT_A, PARTITION_VERT_B, PARTITION_HORZ_4, PARTITION_VERT_4}
 use Rattle.av1_geometry.specs.declared.partition_type.TheConstants.{ALL_PARTITIONS}
 
 -- the place of a partition in the order of the enum

@@ -1,7 +1,13 @@
 -- The modes of prediction by their numbers.
 use Rattle.std.specs.Prelude.{ℕ, Bool, true, false, Option, slice_get}
 use Rattle.av1_geometry.specs.declared.prediction_mode.PredictionMode.{PredictionMode}
-use Rattle.av1_geometry.specs.declared.prediction_mode.PredictionMode.TheVariants.{DC_PRED, V_PRED, H_PRED, D45_PRED, D135_PRED, D113_PRED, D157_PRED, D203_PRED, D67_PRED, SMOOTH_PRED, SMOOTH_V_PRED, SMOOTH_H_PRED, PAETH_PRED, UV_CFL_PRED, NEARESTMV, NEAR0MV, NEAR1MV, NEAR2MV, GLOBALMV, NEWMV, NEAREST_NEARESTMV, NEAR_NEAR0MV, NEAR_NEAR1MV, NEAR_NEAR2MV, NEAREST_NEWMV, NEW_NEARESTMV, NEAR_NEW0MV, NEAR_NEW1MV, NEAR_NEW2MV, NEW_NEAR0MV, NEW_NEAR1MV, NEW_NEAR2MV, GLOBAL_GLOBALMV, NEW_NEWMV}
+use Rattle.av1_geometry.specs.declared.prediction_mode.PredictionMode.TheVariants.{DC_PRED, V_PRED, H_PRED, D45_PRED, D135_PRED, D113_PRED}
+use Rattle.av1_geometry.specs.declared.prediction_mode.PredictionMode.TheVariants.{D157_PRED, D203_PRED, D67_PRED, SMOOTH_PRED, SMOOTH_V_PRED}
+use Rattle.av1_geometry.specs.declared.prediction_mode.PredictionMode.TheVariants.{SMOOTH_H_PRED, PAETH_PRED, UV_CFL_PRED, NEARESTMV, NEAR0MV}
+use Rattle.av1_geometry.specs.declared.prediction_mode.PredictionMode.TheVariants.{NEAR1MV, NEAR2MV, GLOBALMV, NEWMV, NEAREST_NEARESTMV}
+use Rattle.av1_geometry.specs.declared.prediction_mode.PredictionMode.TheVariants.{NEAR_NEAR0MV, NEAR_NEAR1MV, NEAR_NEAR2MV, NEAREST_NEWMV}
+use Rattle.av1_geometry.specs.declared.prediction_mode.PredictionMode.TheVariants.{NEW_NEARESTMV, NEAR_NEW0MV, NEAR_NEW1MV, NEAR_NEW2MV}
+use Rattle.av1_geometry.specs.declared.prediction_mode.PredictionMode.TheVariants.{NEW_NEAR0MV, NEW_NEAR1MV, NEW_NEAR2MV, GLOBAL_GLOBALMV, NEW_NEWMV}
 use Rattle.av1_geometry.specs.declared.prediction_mode.TheConstants.{ALL_MODES}
 
 -- the place of a mode in the order of the enum

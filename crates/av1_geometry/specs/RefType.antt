@@ -1,7 +1,8 @@
 -- The references by their numbers.
 use Rattle.std.specs.Prelude.{ℕ, Option, slice_get}
 use Rattle.av1_geometry.specs.declared.ref_type.RefType.{RefType}
-use Rattle.av1_geometry.specs.declared.ref_type.RefType.TheVariants.{INTRA_FRAME, LAST_FRAME, LAST2_FRAME, LAST3_FRAME, GOLDEN_FRAME, BWDREF_FRAME, ALTREF2_FRAME, ALTREF_FRAME, NONE_FRAME}
+use Rattle.av1_geometry.specs.declared.ref_type.RefType.TheVariants.{INTRA_FRAME, LAST_FRAME, LAST2_FRAME, LAST3_FRAME}
+use Rattle.av1_geometry.specs.declared.ref_type.RefType.TheVariants.{GOLDEN_FRAME, BWDREF_FRAME, ALTREF2_FRAME, ALTREF_FRAME, NONE_FRAME}
 use Rattle.av1_geometry.specs.declared.ref_type.TheConstants.{ALL_REFERENCES}
 
 -- the place of a reference in the order of the enum

@@ -25,7 +25,8 @@ turned Greater Equal = refl
 turned Greater Greater = refl
 
 -- of two steps that do not go down
-climbs : {K : Type 0} {R : K → K → Ordering} → IsTotalOrder R → (x y z : K) (a b : Ordering) → R x y ≡ a → R y z ≡ b → is_gt a ≡ false → is_gt b ≡ false → R x z ≡ ordering_then a b
+climbs : {K : Type 0} {R : K → K → Ordering} → IsTotalOrder R → (x y z : K) (a b : Ordering) → R x y ≡ a → R y z ≡ b → is_gt a ≡ false →
+    is_gt b ≡ false → R x z ≡ ordering_then a b
 climbs o x y z Less Less p q h k = o.trans x y z p q
 climbs o x y z Less Equal p q h k = sym (alike_right o y z x q) ∙ p
 climbs o x y z Less Greater p q h k = absurd (true≢false k)
@@ -84,13 +85,18 @@ module _ {K : Type 0} {R S : K → K → Ordering} (r : IsTotalOrder R) (s : IsT
   level x y e = subst (λ z. order x z ≡ Some Equal) e (ap (λ a. by_sides a (S x x)) (tied_itself r x) ∙ ap (λ b. by_sides Equal b) (tied_itself s x))
 
   -- where equal sides make equal sizes
-  pub ordered : (E : K → K → Bool) → ((x y : K) → Decides (E x y) (x ≡ y)) → ((x y : K) → R x y ≡ Equal → S x y ≡ Equal → x ≡ y) → IsPartialOrder E (λ x y. by_sides (R x y) (S x y))
+  pub ordered : (E : K → K → Bool) → ((x y : K) → Decides (E x y) (x ≡ y)) → ((x y : K) → R x y ≡ Equal → S x y ≡ Equal → x ≡ y) → IsPartialOrder E
+      (λ x y. by_sides (R x y) (S x y))
   ordered E decides known = record {
     antisymm = λ x y. ap (λ a. by_sides a (S x y)) (r.antisymm x y) ∙ ap (λ b. by_sides (ordering_reverse (R y x)) b) (s.antisymm x y) ∙ turned (R y x) (S y x);
     trans = λ x y z p q.
         let w : R x z ≡ ordering_then (R x y) (R y z) = climbs r x y z (R x y) (R y z) refl refl (width_up _ (S x y) p) (width_up _ (S y z) q) in
         let h : S x z ≡ ordering_then (S x y) (S y z) = climbs s x y z (S x y) (S y z) refl refl (height_up (R x y) _ p) (height_up (R y z) _ q) in
         ap (λ a. by_sides a (S x z)) w ∙ ap (λ b. by_sides (ordering_then (R x y) (R y z)) b) h ∙ both_up (R x y) (S x y) (R y z) (S y z) p q;
-    matches_eq = λ x y. (λ e. level x y ((decides x y).0 e), λ e. let b : (R x y ≡ Equal) × (S x y ≡ Equal) = both_equal (R x y) (S x y) e in (decides x y).1 (known x y b.0 b.1));
+    matches_eq = λ x y. (
+      λ e. level x y ((decides x y).0 e),
+      λ e. let b : (R x y ≡ Equal) × (S x y ≡ Equal) = both_equal (R x y) (S x y) e in
+          (decides x y).1 (known x y b.0 b.1),
+    );
     congr = λ x y z e. ap (λ v. order v z) ((decides x y).0 e);
   }

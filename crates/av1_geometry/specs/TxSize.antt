@@ -1,7 +1,9 @@
 -- The sizes of a transform: their numbers, and their sides as powers of two.
 use Rattle.std.specs.Prelude.{ℕ, Option, slice_get, nat_eq, ◌&&◌, find, min, max, unwrap_or}
 use Rattle.av1_geometry.specs.declared.tx_size.TxSize.{TxSize}
-use Rattle.av1_geometry.specs.declared.tx_size.TxSize.TheVariants.{TX_4X4, TX_8X8, TX_16X16, TX_32X32, TX_64X64, TX_4X8, TX_8X4, TX_8X16, TX_16X8, TX_16X32, TX_32X16, TX_32X64, TX_64X32, TX_4X16, TX_16X4, TX_8X32, TX_32X8, TX_16X64, TX_64X16}
+use Rattle.av1_geometry.specs.declared.tx_size.TxSize.TheVariants.{TX_4X4, TX_8X8, TX_16X16, TX_32X32, TX_64X64, TX_4X8}
+use Rattle.av1_geometry.specs.declared.tx_size.TxSize.TheVariants.{TX_8X4, TX_8X16, TX_16X8, TX_16X32, TX_32X16, TX_32X64}
+use Rattle.av1_geometry.specs.declared.tx_size.TxSize.TheVariants.{TX_64X32, TX_4X16, TX_16X4, TX_8X32, TX_32X8, TX_16X64, TX_64X16}
 use Rattle.av1_geometry.specs.declared.tx_size.TheConstants.{ALL_TX_SIZES}
 
 -- the size with this number

@@ -7,7 +7,9 @@ use Rattle.std.specs.Cmp.{IsPartialOrder, nat_cmp_total, on_total, ranked}
 use denote.Enum.Bare.{sameb, same_true, true_same}
 use Rattle.av1_geometry.specs.contracts.tx_size.TxSize.{the_type}
 use Rattle.av1_geometry.specs.declared.tx_size.TxSize.{TxSize}
-use Rattle.av1_geometry.specs.declared.tx_size.TxSize.TheVariants.{TX_4X4, TX_8X8, TX_16X16, TX_32X32, TX_64X64, TX_4X8, TX_8X4, TX_8X16, TX_16X8, TX_16X32, TX_32X16, TX_32X64, TX_64X32, TX_4X16, TX_16X4, TX_8X32, TX_32X8, TX_16X64, TX_64X16}
+use Rattle.av1_geometry.specs.declared.tx_size.TxSize.TheVariants.{TX_4X4, TX_8X8, TX_16X16, TX_32X32, TX_64X64, TX_4X8}
+use Rattle.av1_geometry.specs.declared.tx_size.TxSize.TheVariants.{TX_8X4, TX_8X16, TX_16X8, TX_16X32, TX_32X16, TX_32X64}
+use Rattle.av1_geometry.specs.declared.tx_size.TxSize.TheVariants.{TX_64X32, TX_4X16, TX_16X4, TX_8X32, TX_32X8, TX_16X64, TX_64X16}
 use Rattle.av1_geometry.specs.TxSize.{tx_width_log2, tx_height_log2, tx_with_sides}
 use Rattle.av1_geometry.specs.Sides.{by_sides}
 use Rattle.av1_geometry.specs.SidesOrder.{ordered}
@@ -36,7 +38,8 @@ own_tx_sides TX_64X16 = refl
 
 pub same_tx_sides : (s t : TxSize) → tx_width_log2 s ≡ tx_width_log2 t → tx_height_log2 s ≡ tx_height_log2 t → s ≡ t
 same_tx_sides s t w h =
-    let e : Some s ≡ Some t = sym (own_tx_sides s) ∙ ap (λ x. tx_with_sides x (tx_height_log2 s)) w ∙ ap (λ y. tx_with_sides (tx_width_log2 t) y) h ∙ own_tx_sides t in
+    let e : Some s ≡ Some t = sym (own_tx_sides s) ∙ ap (λ x. tx_with_sides x (tx_height_log2 s)) w
+    ∙ ap (λ y. tx_with_sides (tx_width_log2 t) y) h ∙ own_tx_sides t in
     ap (λ o. unwrap_or o s) e
 
 -- at most another where neither side is longer

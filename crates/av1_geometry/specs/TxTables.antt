@@ -1,12 +1,16 @@
 -- The sets of transform types and the rules of the tables of transforms.
-use Rattle.std.specs.Prelude.{◌≡◌, ℕ, ◌-◌, List, [], ◌∷◌, Bool, Some, nat_eq, nat_lt, ◌||◌, if◌then◌else◌, min, max, unwrap_or, map, length, slice_get, IsTrue, position}
+use Rattle.std.specs.Prelude.{◌≡◌, ℕ, ◌-◌, List, [], ◌∷◌, Bool, Some, nat_eq, nat_lt, ◌||◌}
+use Rattle.std.specs.Prelude.{if◌then◌else◌, min, max, unwrap_or, map, length, slice_get, IsTrue, position}
 use Rattle.std.specs.List.{list_any}
 use Rattle.av1_geometry.specs.declared.tx_size.TxSize.{TxSize}
 use Rattle.av1_geometry.specs.declared.tx_size.TheConstants.{ALL_TX_SIZES}
 use Rattle.av1_geometry.specs.declared.tx_type.TxType.{TxType}
-use Rattle.av1_geometry.specs.declared.tx_type.TxType.TheVariants.{DCT_DCT, ADST_DCT, DCT_ADST, ADST_ADST, FLIPADST_DCT, DCT_FLIPADST, FLIPADST_FLIPADST, ADST_FLIPADST, FLIPADST_ADST, IDTX, V_DCT, H_DCT, V_ADST, H_ADST, V_FLIPADST, H_FLIPADST}
+use Rattle.av1_geometry.specs.declared.tx_type.TxType.TheVariants.{DCT_DCT, ADST_DCT, DCT_ADST, ADST_ADST, FLIPADST_DCT}
+use Rattle.av1_geometry.specs.declared.tx_type.TxType.TheVariants.{DCT_FLIPADST, FLIPADST_FLIPADST, ADST_FLIPADST}
+use Rattle.av1_geometry.specs.declared.tx_type.TxType.TheVariants.{FLIPADST_ADST, IDTX, V_DCT, H_DCT, V_ADST, H_ADST, V_FLIPADST, H_FLIPADST}
 use Rattle.av1_geometry.specs.declared.tx_type.TxSet.{TxSet}
-use Rattle.av1_geometry.specs.declared.tx_type.TxSet.TheVariants.{TX_SET_DCTONLY, TX_SET_INTER_3, TX_SET_INTRA_2, TX_SET_INTRA_1, TX_SET_INTER_2, TX_SET_INTER_1}
+use Rattle.av1_geometry.specs.declared.tx_type.TxSet.TheVariants.{TX_SET_DCTONLY, TX_SET_INTER_3, TX_SET_INTRA_2}
+use Rattle.av1_geometry.specs.declared.tx_type.TxSet.TheVariants.{TX_SET_INTRA_1, TX_SET_INTER_2, TX_SET_INTER_1}
 use Rattle.av1_geometry.specs.declared.tx_type.TxClass.{TxClass}
 use Rattle.av1_geometry.specs.declared.tx_type.TxClass.TheVariants.{TX_CLASS_2D, TX_CLASS_HORIZ, TX_CLASS_VERT}
 use Rattle.av1_geometry.specs.declared.tx_type.TheConstants.{ALL_TX_TYPES}
@@ -20,8 +24,10 @@ coded_types TX_SET_DCTONLY = DCT_DCT ∷ []
 coded_types TX_SET_INTER_3 = IDTX ∷ DCT_DCT ∷ []
 coded_types TX_SET_INTRA_2 = IDTX ∷ DCT_DCT ∷ ADST_ADST ∷ ADST_DCT ∷ DCT_ADST ∷ []
 coded_types TX_SET_INTRA_1 = IDTX ∷ DCT_DCT ∷ V_DCT ∷ H_DCT ∷ ADST_ADST ∷ ADST_DCT ∷ DCT_ADST ∷ []
-coded_types TX_SET_INTER_2 = IDTX ∷ V_DCT ∷ H_DCT ∷ DCT_DCT ∷ ADST_DCT ∷ DCT_ADST ∷ FLIPADST_DCT ∷ DCT_FLIPADST ∷ ADST_ADST ∷ FLIPADST_FLIPADST ∷ ADST_FLIPADST ∷ FLIPADST_ADST ∷ []
-coded_types TX_SET_INTER_1 = IDTX ∷ V_DCT ∷ H_DCT ∷ V_ADST ∷ H_ADST ∷ V_FLIPADST ∷ H_FLIPADST ∷ DCT_DCT ∷ ADST_DCT ∷ DCT_ADST ∷ FLIPADST_DCT ∷ DCT_FLIPADST ∷ ADST_ADST ∷ FLIPADST_FLIPADST ∷ ADST_FLIPADST ∷ FLIPADST_ADST ∷ []
+coded_types TX_SET_INTER_2 =
+    IDTX ∷ V_DCT ∷ H_DCT ∷ DCT_DCT ∷ ADST_DCT ∷ DCT_ADST ∷ FLIPADST_DCT ∷ DCT_FLIPADST ∷ ADST_ADST ∷ FLIPADST_FLIPADST ∷ ADST_FLIPADST ∷ FLIPADST_ADST ∷ []
+coded_types TX_SET_INTER_1 = IDTX ∷ V_DCT ∷ H_DCT ∷ V_ADST ∷ H_ADST ∷ V_FLIPADST ∷ H_FLIPADST ∷ DCT_DCT ∷ ADST_DCT ∷ DCT_ADST ∷ FLIPADST_DCT
+    ∷ DCT_FLIPADST ∷ ADST_ADST ∷ FLIPADST_FLIPADST ∷ ADST_FLIPADST ∷ FLIPADST_ADST ∷ []
 
 abbrev pub tx_sets : List TxSet
 tx_sets = TX_SET_DCTONLY ∷ TX_SET_INTER_3 ∷ TX_SET_INTRA_2 ∷ TX_SET_INTRA_1 ∷ TX_SET_INTER_2 ∷ TX_SET_INTER_1 ∷ []

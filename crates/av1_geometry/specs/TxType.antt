@@ -1,10 +1,13 @@
 -- The types of a transform and the sets of types, by their numbers.
 use Rattle.std.specs.Prelude.{ℕ, Option, slice_get}
 use Rattle.av1_geometry.specs.declared.tx_type.TxType.{TxType}
-use Rattle.av1_geometry.specs.declared.tx_type.TxType.TheVariants.{DCT_DCT, ADST_DCT, DCT_ADST, ADST_ADST, FLIPADST_DCT, DCT_FLIPADST, FLIPADST_FLIPADST, ADST_FLIPADST, FLIPADST_ADST, IDTX, V_DCT, H_DCT, V_ADST, H_ADST, V_FLIPADST, H_FLIPADST}
+use Rattle.av1_geometry.specs.declared.tx_type.TxType.TheVariants.{DCT_DCT, ADST_DCT, DCT_ADST, ADST_ADST, FLIPADST_DCT}
+use Rattle.av1_geometry.specs.declared.tx_type.TxType.TheVariants.{DCT_FLIPADST, FLIPADST_FLIPADST, ADST_FLIPADST}
+use Rattle.av1_geometry.specs.declared.tx_type.TxType.TheVariants.{FLIPADST_ADST, IDTX, V_DCT, H_DCT, V_ADST, H_ADST, V_FLIPADST, H_FLIPADST}
 use Rattle.av1_geometry.specs.declared.tx_type.TheConstants.{ALL_TX_TYPES}
 use Rattle.av1_geometry.specs.declared.tx_type.TxSet.{TxSet}
-use Rattle.av1_geometry.specs.declared.tx_type.TxSet.TheVariants.{TX_SET_DCTONLY, TX_SET_INTER_3, TX_SET_INTRA_2, TX_SET_INTRA_1, TX_SET_INTER_2, TX_SET_INTER_1}
+use Rattle.av1_geometry.specs.declared.tx_type.TxSet.TheVariants.{TX_SET_DCTONLY, TX_SET_INTER_3, TX_SET_INTRA_2}
+use Rattle.av1_geometry.specs.declared.tx_type.TxSet.TheVariants.{TX_SET_INTRA_1, TX_SET_INTER_2, TX_SET_INTER_1}
 
 -- the place of a type in the order of the enum
 abbrev pub tx_type_number : TxType → ℕ

@@ -3,7 +3,9 @@ ghost use Rattle.std.specs.Prelude.{◌≡◌, ◌-◌, ◌<◌, ◌≤◌, min,
 ghost use Rattle.av1_geometry.specs.BlockSize.{width_log2, height_log2, with_sides, width_mi, height_mi};
 ghost use Rattle.av1_geometry.specs.PartitionType.{width_halvings, height_halvings};
 ghost use Rattle.av1_geometry.specs.TxSize.{tx_width_log2, tx_height_log2};
-ghost use Rattle.av1_geometry.specs.BlockTables.{subsize_of, subsampled_size_of, max_tx_size, size_group, PartitionContextsAreByWidthAndHeight, SizeGroupsAreByShorterSide, LargestTransformsAreWithin64, PartsKeepTheBlock};
+ghost use Rattle.av1_geometry.specs.BlockTables.{subsize_of, subsampled_size_of, max_tx_size, size_group};
+ghost use Rattle.av1_geometry.specs.BlockTables.{PartitionContextsAreByWidthAndHeight, SizeGroupsAreByShorterSide};
+ghost use Rattle.av1_geometry.specs.BlockTables.{LargestTransformsAreWithin64, PartsKeepTheBlock};
 
 use crate::block_size::BlockSize;
 use crate::block_size::BlockSize::*;

@@ -9,7 +9,8 @@ use crate::chroma_sampling::ChromaSampling;
 use crate::prediction_mode::PredictionMode;
 use crate::tx_type::TxType;
 
-/// Whether the chroma of the place belongs to this block: a block that is one unit wide in halved chroma leaves it to the block to its right, one that is one unit high to the block below.
+/// Whether the chroma of the place belongs to this block: a block that is one unit wide in halved chroma leaves it to the block
+/// to its right, one that is one unit high to the block below.
 pub fn has_chroma(
     bo: TileBlockOffset,
     bsize: BlockSize,

@@ -1,6 +1,7 @@
 // The planes of a frame.
 ghost use Rattle.std.specs.Prelude.{◌≡◌, ◌<◌, ◌↔◌, IsTrue, IsSome, IfSome};
-ghost use Rattle.av1_geometry.specs.ChromaSampling.{chroma_sampling_number, chroma_sampling_of, xdec_of, ydec_of, planes_of, pixel_range_number, pixel_range_of};
+ghost use Rattle.av1_geometry.specs.ChromaSampling.{chroma_sampling_number, chroma_sampling_of, xdec_of};
+ghost use Rattle.av1_geometry.specs.ChromaSampling.{ydec_of, planes_of, pixel_range_number, pixel_range_of};
 
 /// How chroma is sampled against luma.
 #[derive(Clone, Copy, Debug, PartialEq, Eq)]

@@ -1,6 +1,7 @@
 // Tables of the coding of coefficients.
 ghost use Rattle.std.specs.Prelude.{◌≡◌, ◌≤◌, ◌<◌, pos, min};
-ghost use Rattle.av1_geometry.specs.CoefficientTables.{eob_class, group_start, offset_bits, nz_offset, nz_offset_1d, GroupsStart, GroupsHaveOffsetBits, SmallEnds, LargeEnds, OffsetsByShape, OffsetsInOneDimension};
+ghost use Rattle.av1_geometry.specs.CoefficientTables.{eob_class, group_start, offset_bits, nz_offset, nz_offset_1d, GroupsStart};
+ghost use Rattle.av1_geometry.specs.CoefficientTables.{GroupsHaveOffsetBits, SmallEnds, LargeEnds, OffsetsByShape, OffsetsInOneDimension};
 
 use crate::tx_size::TxSize;
 
@@ -21,7 +22,8 @@ pub static k_eob_group_start: [u16; 12] = [0, 1, 2, 3, 5, 9, 17, 33, 65, 129, 25
 /// The bits that tell the numbers of a class apart.
 pub static k_eob_offset_bits: [u16; 12] = [0, 0, 0, 1, 2, 3, 4, 5, 6, 7, 8, 9];
 
-/// The part that place and shape have in the context of a coefficient of a two-dimensional transform, by size, row and column, where rows and columns from 4 on count as 4.
+/// The part that place and shape have in the context of a coefficient of a two-dimensional transform, by size, row and column,
+/// where rows and columns from 4 on count as 4.
 pub static av1_nz_map_ctx_offset: [[[i8; 5]; 5]; TxSize::TX_SIZES_ALL] = [
     // TX_4X4
     [

@@ -1,6 +1,7 @@
 // Kinds of frames, of references and of global motion.
 ghost use Rattle.std.specs.Prelude.{◌≡◌, ◌<◌, ◌↔◌, IsSome, IfSome};
-ghost use Rattle.av1_geometry.specs.FrameType.{frame_type_number, frame_type_of, reference_mode_number, reference_mode_of, global_mv_mode_number, global_mv_mode_of};
+ghost use Rattle.av1_geometry.specs.FrameType.{frame_type_number, frame_type_of, reference_mode_number};
+ghost use Rattle.av1_geometry.specs.FrameType.{reference_mode_of, global_mv_mode_number, global_mv_mode_of};
 
 /// The kind of a frame.
 #[derive(Clone, Copy, Debug, PartialEq, Eq)]

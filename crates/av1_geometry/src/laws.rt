@@ -7,7 +7,8 @@ ghost use Rattle.av1_geometry.specs.TxType.{tx_type_number, tx_type_of};
 ghost use Rattle.av1_geometry.specs.PredictionMode.{prediction_mode_number, prediction_mode_of};
 ghost use Rattle.av1_geometry.specs.PartitionType.{partition_number, partition_of};
 ghost use Rattle.av1_geometry.specs.RefType.{reference_number, reference_of};
-ghost use Rattle.av1_geometry.specs.FrameType.{frame_type_number, frame_type_of, reference_mode_number, reference_mode_of, global_mv_mode_number, global_mv_mode_of};
+ghost use Rattle.av1_geometry.specs.FrameType.{frame_type_number, frame_type_of, reference_mode_number};
+ghost use Rattle.av1_geometry.specs.FrameType.{reference_mode_of, global_mv_mode_number, global_mv_mode_of};
 ghost use Rattle.av1_geometry.specs.ChromaSampling.{chroma_sampling_number, chroma_sampling_of, pixel_range_number, pixel_range_of};
 
 use crate::block_size::BlockSize;

@@ -2,7 +2,8 @@
 ghost use Rattle.std.specs.Prelude.{◌≡◌, ◌<◌, ◌↔◌, IsTrue, IsSome, IfSome};
 ghost use Rattle.av1_geometry.specs.PredictionMode.{prediction_mode_number, prediction_mode_of, has_newmv};
 
-/// How a block is predicted: 0 to 13 within the frame, of which the last is for chroma alone, then from one reference, from 20 on from two. The index of a near candidate stands in its name.
+/// How a block is predicted: 0 to 13 within the frame, of which the last is for chroma alone, then from one reference, from 20 on
+/// from two. The index of a near candidate stands in its name.
 #[derive(Clone, Copy, Debug, PartialEq, Eq)]
 pub enum PredictionMode {
     DC_PRED,

@@ -1,7 +1,8 @@
 // Which types a transform may have, and the tables of sets of types.
 ghost use Rattle.std.specs.Prelude.{◌≡◌, ◌≢◌, ◌≤◌, ◌<◌, ◌-◌, ◌↔◌, IsTrue, min, max, length, pos};
 ghost use Rattle.av1_geometry.specs.TxSize.{tx_width_log2, tx_height_log2};
-ghost use Rattle.av1_geometry.specs.TxTables.{coded_types, uses, index_in, class_of, half_size, coded_size, tx_set, index_of_set, SetsHaveTheirCodedTypes, SizesOfSets, IndicesAreOneToOne, ClassesAreByName, SplitsHalveTheLongerSide, IndexTable};
+ghost use Rattle.av1_geometry.specs.TxTables.{coded_types, uses, index_in, class_of, half_size, coded_size, tx_set, index_of_set};
+ghost use Rattle.av1_geometry.specs.TxTables.{SetsHaveTheirCodedTypes, SizesOfSets, IndicesAreOneToOne, ClassesAreByName, SplitsHalveTheLongerSide, IndexTable};
 
 use crate::constants::{TX_SETS, TX_TYPES};
 use crate::tx_size::TxSize;

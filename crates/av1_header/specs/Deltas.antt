@@ -1,5 +1,6 @@
 -- The rows of quantization_params(), delta_lf_params() and loop_filter_params() of the AV1 specification (5.9.11, 5.9.12, 5.9.18).
-use Rattle.std.specs.Prelude.{ℕ, ◌^◌, ◌<◌, List, [], ◌∷◌, Bool, true, Option, Some, None, ◌==◌, ◌&&◌, ◌||◌, not, nat_lt, if◌then◌else◌, codes, slice_index_or, ℤ, pos, negsuc, ◌-ℤ◌, unsigned_abs}
+use Rattle.std.specs.Prelude.{ℕ, ◌^◌, ◌<◌, List, [], ◌∷◌, Bool, true, Option, Some, None, ◌==◌, ◌&&◌, ◌||◌, not}
+use Rattle.std.specs.Prelude.{nat_lt, if◌then◌else◌, codes, slice_index_or, ℤ, pos, negsuc, ◌-ℤ◌, unsigned_abs}
 use Rattle.av1_frame.specs.declared.frame.FrameInvariants.{FrameInvariants}
 use Rattle.av1_frame.specs.declared.reference.RefState.{RefState}
 use Rattle.av1_frame.specs.declared.state.DeblockState.{DeblockState}

@@ -1,5 +1,6 @@
 -- The rows of film_grain_params() of the AV1 specification (5.9.30).
-use Rattle.std.specs.Prelude.{ℕ, ◌+◌, ◌-◌, ◌*◌, ◌^◌, ◌<◌, ◌≤◌, List, [], Bool, true, false, Option, Some, None, ◌==◌, ◌&&◌, ◌||◌, not, nat_lt, is_some, unwrap_or, if◌then◌else◌, codes, length, slice_index_or, ℤ, pos, ◌+ℤ◌, unsigned_abs}
+use Rattle.std.specs.Prelude.{ℕ, ◌+◌, ◌-◌, ◌*◌, ◌^◌, ◌<◌, ◌≤◌, List, [], Bool, true, false, Option, Some, None, ◌==◌, ◌&&◌, ◌||◌, not}
+use Rattle.std.specs.Prelude.{nat_lt, is_some, unwrap_or, if◌then◌else◌, codes, length, slice_index_or, ℤ, pos, ◌+ℤ◌, unsigned_abs}
 use Rattle.av1_geometry.specs.ChromaSampling.{pixel_range_number}
 use Rattle.av1_frame.specs.Grain.{Grain}
 use Rattle.av1_frame.specs.declared.frame.FrameInvariants.{FrameInvariants}

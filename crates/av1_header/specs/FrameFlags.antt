@@ -32,13 +32,21 @@ frame_kind reduced = do
 unfoldable pub frame_tools : Bool → Forces → FrameKind → Rows FrameInvariants FrameTools
 frame_tools reduced forces kind = do
   disable ← flag (codes "disable_cdf_update") (λ fi. fi.disable_cdf_update)
-  screen ← flag_or (forces.screen_content_tools == 2) (forces.screen_content_tools == 1) (codes "allow_screen_content_tools") (λ fi. not (fi.allow_screen_content_tools == 0))
+  screen ← flag_or (forces.screen_content_tools == 2) (forces.screen_content_tools == 1) (codes "allow_screen_content_tools")
+      (λ fi. not (fi.allow_screen_content_tools == 0))
   integer ← flag_or (screen && forces.integer_mv == 2) (screen && forces.integer_mv == 1) (codes "force_integer_mv") (λ fi. not (fi.force_integer_mv == 0))
   own ← flag_or (not (kind.frame_type == 3) && not reduced) (kind.frame_type == 3) (codes "frame_size_override_flag") (λ fi. fi.frame_size_override_flag)
   hint ← number_if (nat_lt 0 forces.order_hint_bits) (codes "order_hint") (f forces.order_hint_bits) (λ fi. fi.order_hint)
   primary ← number_or (not kind.error_resilient && not kind.intra) 7 (codes "primary_ref_frame") (f 3) (λ fi. fi.primary_ref_frame)
   refresh ← number_or (not (kind.frame_type == 0) && not (kind.frame_type == 3)) 255 (codes "refresh_frame_flags") (f 8) (λ fi. fi.refresh_frame_flags)
-  Done (record { disable_cdf_update = disable; screen_content_tools = screen; integer_mv = integer; size_override = own; primary_ref_frame = primary; refresh_frame_flags = refresh })
+  Done (record {
+    disable_cdf_update = disable;
+    screen_content_tools = screen;
+    integer_mv = integer;
+    size_override = own;
+    primary_ref_frame = primary;
+    refresh_frame_flags = refresh;
+  })
 
 -- the order hint of a reference frame, and 0 where there is none
 abbrev pub hint_of : Option RefState → ℕ

@@ -1,5 +1,6 @@
 -- The rows of uncompressed_header() of the AV1 specification (5.9.2), put together.
-use Rattle.std.specs.Prelude.{◌≡◌, ℕ, ◌+◌, ◌^◌, ◌<◌, ◌≤◌, List, Bool, true, Option, Some, None, ◌==◌, ◌&&◌, ◌||◌, not, nat_lt, if◌then◌else◌, codes, slice_index_or}
+use Rattle.std.specs.Prelude.{◌≡◌, ℕ, ◌+◌, ◌^◌, ◌<◌, ◌≤◌, List, Bool, true, Option, Some, None}
+use Rattle.std.specs.Prelude.{◌==◌, ◌&&◌, ◌||◌, not, nat_lt, if◌then◌else◌, codes, slice_index_or}
 use Rattle.std.specs.Int.{div_ceil}
 use Rattle.av1_frame.specs.Tiling.{tiling}
 use Rattle.av1_frame.specs.declared.frame.FrameInvariants.{FrameInvariants}
@@ -32,7 +33,9 @@ pub record Frame : Type 0 where
 
 -- the references, sides and vectors of a frame of either kind
 unfoldable pub frame_sides : SequenceValues → FrameKind → FrameTools → Bool → Rows FrameRefs Bool
-frame_sides q kind tool high = if kind.intra then intra_frame tool q.tools.size high else inter_frame (nat_lt 0 q.tools.forces.order_hint_bits) q.tools.inter.ref_frame_mvs kind.error_resilient tool q.tools.size high
+frame_sides q kind tool high =
+    if kind.intra then intra_frame tool q.tools.size high
+    else inter_frame (nat_lt 0 q.tools.forces.order_hint_bits) q.tools.inter.ref_frame_mvs kind.error_resilient tool q.tools.size high
 
 -- whether the order hints of all reference frames are there
 abbrev pub says_hints : SequenceValues → FrameKind → FrameTools → Bool
@@ -111,8 +114,16 @@ sequence_values_of fi = record {
   reduced = fi.sequence.reduced_still_picture_hdr;
   tools = record {
     size = max_size_of fi;
-    inter = record { warped_motion = fi.sequence.enable_warped_motion; order_hint = fi.sequence.enable_order_hint; ref_frame_mvs = fi.sequence.enable_ref_frame_mvs };
-    forces = record { screen_content_tools = fi.sequence.force_screen_content_tools; integer_mv = fi.sequence.force_integer_mv; order_hint_bits = order_hint_bits_of fi.sequence };
+    inter = record {
+      warped_motion = fi.sequence.enable_warped_motion;
+      order_hint = fi.sequence.enable_order_hint;
+      ref_frame_mvs = fi.sequence.enable_ref_frame_mvs;
+    };
+    forces = record {
+      screen_content_tools = fi.sequence.force_screen_content_tools;
+      integer_mv = fi.sequence.force_integer_mv;
+      order_hint_bits = order_hint_bits_of fi.sequence;
+    };
     filters = record { cdef = fi.sequence.enable_cdef; restoration = fi.sequence.enable_restoration };
   };
   color = color_of fi.sequence.chroma_sampling;
@@ -130,7 +141,8 @@ shows_existing fi = not fi.sequence.reduced_still_picture_hdr && fi.show_existin
 pub record StartFits (fr : FrameRefs) : Type 0 where
   pub hint_bits : order_hint_bits_of fr.invariants.sequence ≤ 8
   pub hint : nat_lt 0 (order_hint_bits_of fr.invariants.sequence) ≡ true → fr.invariants.order_hint < 2 ^ order_hint_bits_of fr.invariants.sequence
-  pub ref_hints : nat_lt 0 (order_hint_bits_of fr.invariants.sequence) ≡ true → (i : ℕ) → i < 8 → hint_of (slice_index_or fr.refs i None) < 2 ^ order_hint_bits_of fr.invariants.sequence
+  pub ref_hints : nat_lt 0 (order_hint_bits_of fr.invariants.sequence) ≡ true → (i : ℕ) → i < 8 →
+      hint_of (slice_index_or fr.refs i None) < 2 ^ order_hint_bits_of fr.invariants.sequence
   pub primary : fr.invariants.primary_ref_frame < 2 ^ 3
   pub refresh : fr.invariants.refresh_frame_flags < 2 ^ 8
   pub places : (i : ℕ) → i < 7 → slice_index_or fr.invariants.ref_frames i 0 < 2 ^ 3

@@ -50,7 +50,8 @@ read (Flag name true other value next) (b ∷ bits) = with_value (IsFlag b) (rea
 read (Flag name false other value next) bits = read (next other) bits
 read (Number name true other code value next) bits = option_and_then (λ r. with_value (IsNumber r.0) (read (next r.0) r.1)) (decoded code bits)
 read (Number name false other code value next) bits = read (next other) bits
-read (Signed name true other n value next) bits = option_and_then (λ r. with_value (IsSigned (uncounted n r.0)) (read (next (uncounted n r.0)) r.1)) (decoded (su n) bits)
+read (Signed name true other n value next) bits =
+    option_and_then (λ r. with_value (IsSigned (uncounted n r.0)) (read (next (uncounted n r.0)) r.1)) (decoded (su n) bits)
 read (Signed name false other n value next) bits = read (next other) bits
 
 -- the values of the rows that are there

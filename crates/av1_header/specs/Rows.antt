@@ -1,5 +1,6 @@
 -- A header as its rows. A row has a name, a code and a value, and whether it is there follows from the values before it.
-use Rattle.std.specs.Prelude.{◌≡◌, ℕ, zero, suc, ◌^◌, ◌<◌, List, [], ◌∷◌, ◌++◌, Bool, true, false, if◌then◌else◌, ℤ, pos, ◌-◌, ◌+ℤ◌, ◌-ℤ◌, neg_ℤ, ◌≤ℤ◌, ◌<ℤ◌, unsigned_abs}
+use Rattle.std.specs.Prelude.{◌≡◌, ℕ, zero, suc, ◌^◌, ◌<◌, List, [], ◌∷◌, ◌++◌, Bool, true, false}
+use Rattle.std.specs.Prelude.{if◌then◌else◌, ℤ, pos, ◌-◌, ◌+ℤ◌, ◌-ℤ◌, neg_ℤ, ◌≤ℤ◌, ◌<ℤ◌, unsigned_abs}
 use Rattle.av1_model.specs.Bits.{bits_of, signed_bits_of, bits_of_bytes}
 use Rattle.av1_model.specs.Codes.{quniform, refsubexp, leb128, IsPrefixCode}
 

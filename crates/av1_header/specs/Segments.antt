@@ -41,4 +41,5 @@ segmentation_params has_primary = do
 
 -- the values of the features that segments have are within their bits
 abbrev pub HaveFittingFeatures : SegmentationState → Type 0
-HaveFittingFeatures s = (i j : ℕ) → i < 8 → j < 8 → (feature_of i j s).present ≡ true → unsigned_abs (feature_of i j s).value < 2 ^ slice_index_or seg_feature_bits j 0
+HaveFittingFeatures s =
+    (i j : ℕ) → i < 8 → j < 8 → (feature_of i j s).present ≡ true → unsigned_abs (feature_of i j s).value < 2 ^ slice_index_or seg_feature_bits j 0

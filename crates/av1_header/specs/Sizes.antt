@@ -1,5 +1,6 @@
 -- The rows of frame_size(), render_size() and frame_size_with_refs() of the AV1 specification (5.9.5 to 5.9.7).
-use Rattle.std.specs.Prelude.{ℕ, zero, suc, ◌+◌, ◌-◌, ◌^◌, ◌<◌, ◌≤◌, List, Bool, true, false, Option, Some, None, ◌==◌, ◌&&◌, not, if◌then◌else◌, codes, slice_index_or}
+use Rattle.std.specs.Prelude.{ℕ, zero, suc, ◌+◌, ◌-◌, ◌^◌, ◌<◌, ◌≤◌, List, Bool, true, false}
+use Rattle.std.specs.Prelude.{Option, Some, None, ◌==◌, ◌&&◌, not, if◌then◌else◌, codes, slice_index_or}
 use Rattle.av1_frame.specs.declared.frame.FrameInvariants.{FrameInvariants}
 use Rattle.av1_frame.specs.declared.reference.RefState.{RefState}
 use Rattle.av1_header.specs.Rows.{Rows, f, flag, flag_if, number_if, on, ◌>>=◌}

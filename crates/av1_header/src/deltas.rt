@@ -1,6 +1,8 @@
 // The quantizer and the deblocking filter of a frame.
 ghost use Rattle.std.specs.Prelude.{◌≡◌, ℕ, ◌+◌, ◌-◌, ◌^◌, ◌<◌, ◌≤◌, ◌==◌, ◌&&◌, not, unsigned_abs, slice_index_or};
-ghost use Rattle.av1_header.specs.Deltas.{QuantizerFits, DeblockFits, PrimaryFits, going_on, delta, same, read_delta_q, chroma_differs, quantization_params, delta_lf_params, changed_delta, levels, ref_deltas, mode_deltas, loop_filter_params, deltas_of, primary_reference, deltas_before};
+ghost use Rattle.av1_header.specs.Deltas.{QuantizerFits, DeblockFits, PrimaryFits, going_on, delta, same, read_delta_q};
+ghost use Rattle.av1_header.specs.Deltas.{chroma_differs, quantization_params, delta_lf_params, changed_delta, levels};
+ghost use Rattle.av1_header.specs.Deltas.{ref_deltas, mode_deltas, loop_filter_params, deltas_of, primary_reference, deltas_before};
 ghost use Rattle.av1_header.specs.Rows.{InBits, Wrote};
 
 use crate::rows::{fixed, flag_or, number_or, signed_if};

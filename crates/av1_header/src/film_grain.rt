@@ -1,7 +1,9 @@
 // The film grain of a frame.
 ghost use Rattle.std.specs.Prelude.{◌≡◌, ℕ, ◌+◌, ◌-◌, ◌*◌, ◌^◌, ◌<◌, ◌≤◌, ◌==◌, true, Some, None, length, pos, ◌+ℤ◌, unsigned_abs, slice_index_or};
 ghost use Rattle.av1_geometry.specs.ChromaSampling.{pixel_range_number};
-ghost use Rattle.av1_header.specs.FilmGrain.{GrainFits, HasCoefficients, FilmGrainFits, point, points, all_points, coefficient, luma_coefficients, chroma_coefficients, count_if, coefficients, multipliers, multipliers_cb, multipliers_cr, grain_end, grain_rows, applied_grain, film_grain_params};
+ghost use Rattle.av1_header.specs.FilmGrain.{GrainFits, HasCoefficients, FilmGrainFits, point, points, all_points, coefficient};
+ghost use Rattle.av1_header.specs.FilmGrain.{luma_coefficients, chroma_coefficients, count_if, coefficients, multipliers};
+ghost use Rattle.av1_header.specs.FilmGrain.{multipliers_cb, multipliers_cr, grain_end, grain_rows, applied_grain, film_grain_params};
 ghost use Rattle.av1_header.specs.Rows.{Wrote, told, each};
 
 use crate::rows::{fixed, flag_or, number_or};

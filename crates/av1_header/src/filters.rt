@@ -1,7 +1,8 @@
 // Filters behind deblocking, modes and motion of a frame.
 ghost use Rattle.std.specs.Prelude.{◌≡◌, ℕ, ◌+◌, ◌-◌, ◌*◌, ◌^◌, ◌<◌, ◌≤◌, ◌==◌, ◌&&◌, true, false, not, nat_lt, slice_index_or, if◌then◌else◌};
 ghost use Rattle.av1_geometry.specs.FrameType.{reference_mode_number, global_mv_mode_number};
-ghost use Rattle.av1_header.specs.Filters.{CdefFits, RestorationFits, cdef_strengths, strengths, cdef_params, lr_params, plane, modes, translations, global_param, global_motion_params};
+ghost use Rattle.av1_header.specs.Filters.{CdefFits, RestorationFits, cdef_strengths, strengths, cdef_params};
+ghost use Rattle.av1_header.specs.Filters.{lr_params, plane, modes, translations, global_param, global_motion_params};
 ghost use Rattle.av1_header.specs.Rows.{Wrote, each};
 
 use crate::rows::{fixed, flag_or, number_or, zero};

@@ -1,7 +1,8 @@
 // The first rows of a frame header.
 ghost use Rattle.std.specs.Prelude.{◌≡◌, ℕ, ◌+◌, ◌-◌, ◌^◌, ◌<◌, ◌≤◌, ◌==◌, ◌&&◌, List, Option, None, true, not, nat_lt, slice_index_or, if◌then◌else◌};
 ghost use Rattle.av1_geometry.specs.FrameType.{frame_type_number};
-ghost use Rattle.av1_header.specs.FrameFlags.{show_existing, frame_kind, frame_tools, hint_of, ref_order_hint, ref_order_hints, ref_frame_idx, ref_frames, vectors, intra_frame, inter_frame};
+ghost use Rattle.av1_header.specs.FrameFlags.{show_existing, frame_kind, frame_tools, hint_of, ref_order_hint};
+ghost use Rattle.av1_header.specs.FrameFlags.{ref_order_hints, ref_frame_idx, ref_frames, vectors, intra_frame, inter_frame};
 ghost use Rattle.av1_header.specs.Rows.{Wrote, each};
 ghost use Rattle.av1_header.specs.SequenceHeader.{SidesFit};
 ghost use Rattle.av1_header.specs.Sizes.{BitsHold, with_refs, RenderFits};

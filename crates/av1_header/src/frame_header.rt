@@ -3,7 +3,9 @@ ghost use Rattle.std.specs.Prelude.{◌≡◌, ℕ, ◌^◌, ◌<◌, ◌≤◌,
 ghost use Rattle.av1_frame.specs.Tiling.{tiling};
 ghost use Rattle.av1_header.specs.Color.{color_of};
 ghost use Rattle.av1_header.specs.Rows.{Wrote};
-ghost use Rattle.av1_header.specs.FrameHeader.{frame_of, FrameFits, StartFits, frame_sides, says_hints, frame_start, superblocks, tiles_of, deblock_of, frame_filters, tiles_in, motions, frame_modes, frame_rows, header_of, order_hint_bits_of, sequence_values_of, shows_existing};
+ghost use Rattle.av1_header.specs.FrameHeader.{frame_of, FrameFits, StartFits, frame_sides, says_hints, frame_start};
+ghost use Rattle.av1_header.specs.FrameHeader.{superblocks, tiles_of, deblock_of, frame_filters, tiles_in, motions};
+ghost use Rattle.av1_header.specs.FrameHeader.{frame_modes, frame_rows, header_of, order_hint_bits_of, sequence_values_of, shows_existing};
 ghost use Rattle.av1_header.specs.SequenceHeader.{SidesFit};
 ghost use Rattle.av1_header.specs.Sizes.{BitsHold, with_refs};
 ghost use Rattle.av1_header.specs.Tiles.{HasSmallLogs, TilesFit};

@@ -1,7 +1,8 @@
 // What holds of a whole sequence of frames.
 ghost use Rattle.std.specs.Prelude.{◌≡◌, ◌+◌, ◌-◌, ◌^◌, ◌<◌, ◌≤◌, ◌==◌, if◌then◌else◌};
 ghost use Rattle.av1_header.specs.Rows.{Wrote};
-ghost use Rattle.av1_header.specs.SequenceHeader.{SidesFit, ToolsFit, SequenceFits, bit_length, max_frame_size, profile, timing, operating_point, intra_tools, inter_tools, forces_of, forces, filters, tools, sequence_header};
+ghost use Rattle.av1_header.specs.SequenceHeader.{SidesFit, ToolsFit, SequenceFits, bit_length, max_frame_size, profile, timing};
+ghost use Rattle.av1_header.specs.SequenceHeader.{operating_point, intra_tools, inter_tools, forces_of, forces, filters, tools, sequence_header};
 
 use crate::color::write_color;
 use crate::rows::{fixed, flag_or, number_or};

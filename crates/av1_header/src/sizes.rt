@@ -2,7 +2,8 @@
 ghost use Rattle.std.specs.Prelude.{◌≡◌, ℕ, ◌-◌, ◌^◌, ◌<◌, ◌≤◌, slice_index_or};
 ghost use Rattle.av1_header.specs.Rows.{Wrote};
 ghost use Rattle.av1_header.specs.SequenceHeader.{SidesFit};
-ghost use Rattle.av1_header.specs.Sizes.{BitsHold, with_refs, RenderFits, frame_size, render_size, found_ref, searched, sizes, has_sides_of, reference_has_sides, max_size_of};
+ghost use Rattle.av1_header.specs.Sizes.{BitsHold, with_refs, RenderFits, frame_size, render_size, found_ref};
+ghost use Rattle.av1_header.specs.Sizes.{searched, sizes, has_sides_of, reference_has_sides, max_size_of};
 
 use crate::rows::{flag_or, number_or};
 use crate::sequence_header::{bit_length, less_one};

@@ -1,5 +1,6 @@
 -- Kinds of JSON values: what stands where none is given, and what a value of the kind is.
-use Rattle.std.specs.Prelude.{ℕ, ◌+◌, ◌-◌, ◌^◌, ◌==◌, ◌&&◌, ℤ, pos, negsuc, neg_ℤ, List, [], ◌∷◌, Bool, false, nat_lt, nat_le, int_le, int_lt, replicate, if◌then◌else◌, Option, Some, None, option_and_then}
+use Rattle.std.specs.Prelude.{ℕ, ◌+◌, ◌-◌, ◌^◌, ◌==◌, ◌&&◌, ℤ, pos, negsuc, neg_ℤ, List, [], ◌∷◌, Bool, false, nat_lt}
+use Rattle.std.specs.Prelude.{nat_le, int_le, int_lt, replicate, if◌then◌else◌, Option, Some, None, option_and_then}
 use Rattle.arrayvec.specs.ArrayVec.{ArrayVec}
 use Rattle.serde_json.specs.Data.{Data, null, array, Items, no_items, item}
 use Rattle.serde_json.specs.Events.{items_len}

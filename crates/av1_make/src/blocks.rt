@@ -2,7 +2,8 @@
 ghost use Rattle.std.specs.Prelude.{◌≡◌, ◌<◌, ◌≤◌, IfOk, OnOk, IsTrue};
 ghost use Rattle.av1_geometry.specs.PredictionMode.{prediction_mode_number};
 ghost use Rattle.av1_step.specs.AngleSteps.{is_directional};
-ghost use Rattle.av1_make.specs.Blocks.{angle_of, block, chroma_size, chroma_type, coefficients, first_levels, level_among, level_of, mode_of, mode_step, predicted, transform, transforms, turned};
+ghost use Rattle.av1_make.specs.Blocks.{angle_of, block, chroma_size, chroma_type, coefficients, first_levels};
+ghost use Rattle.av1_make.specs.Blocks.{level_among, level_of, mode_of, mode_step, predicted, transform, transforms, turned};
 ghost use Rattle.av1_make.specs.Draws.{Makes, after, drawn};
 
 use crate::draws::Maker;

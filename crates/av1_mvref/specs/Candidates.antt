@@ -1,5 +1,6 @@
 -- The vector candidates of a block, and the context of its mode (AV1 specification, 7.10.2).
-use Rattle.std.specs.Prelude.{ℕ, ◌+◌, ◌-◌, ◌*◌, ℤ, pos, neg_ℤ, min, List, [], ◌∷◌, ◌++◌, Bool, ◌&&◌, ◌||◌, not, nat_eq, nat_le, nat_lt, map, filter, sum_by, take, length, slice_index_or, if◌then◌else◌}
+use Rattle.std.specs.Prelude.{ℕ, ◌+◌, ◌-◌, ◌*◌, ℤ, pos, neg_ℤ, min, List, [], ◌∷◌, ◌++◌, Bool, ◌&&◌, ◌||◌, not}
+use Rattle.std.specs.Prelude.{nat_eq, nat_le, nat_lt, map, filter, sum_by, take, length, slice_index_or, if◌then◌else◌}
 use Rattle.std.specs.List.{list_any}
 use Rattle.std.specs.Int.{int_max, int_min}
 use Rattle.std.specs.Ordering.{int_eq}

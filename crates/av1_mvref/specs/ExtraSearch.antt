@@ -1,6 +1,7 @@
 -- What is added where the neighbours give fewer than two candidates (AV1 specification, 7.10.2.12 and 7.10.2.13), and the
 -- whole list.
-use Rattle.std.specs.Prelude.{ℕ, ◌-◌, neg_ℤ, min, List, [], ◌∷◌, ◌++◌, Bool, false, ◌&&◌, not, nat_eq, nat_lt, fold, map, filter, flat_map, length, slice_index_or, if◌then◌else◌}
+use Rattle.std.specs.Prelude.{ℕ, ◌-◌, neg_ℤ, min, List, [], ◌∷◌, ◌++◌, Bool, false, ◌&&◌, not, nat_eq}
+use Rattle.std.specs.Prelude.{nat_lt, fold, map, filter, flat_map, length, slice_index_or, if◌then◌else◌}
 use Rattle.std.specs.List.{list_any}
 use Rattle.av1_geometry.specs.declared.block_offset.BlockOffset.{BlockOffset}
 use Rattle.av1_geometry.specs.declared.block_size.BlockSize.{BlockSize}

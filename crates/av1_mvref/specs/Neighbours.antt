@@ -1,6 +1,7 @@
 -- The neighbours of a block that are visited for vector candidates, in order, each with its weight
 -- (AV1 specification, 7.10.2, without the temporal candidates: 7.10.2.2 rows, 7.10.2.3 columns, 7.10.2.4 corners).
-use Rattle.std.specs.Prelude.{ℕ, zero, suc, ◌+◌, ◌-◌, ◌*◌, ◌%◌, min, max, List, [], ◌∷◌, ◌++◌, Bool, true, false, ◌&&◌, nat_le, nat_lt, fold, map, if◌then◌else◌}
+use Rattle.std.specs.Prelude.{ℕ, zero, suc, ◌+◌, ◌-◌, ◌*◌, ◌%◌, min, max, List, [], ◌∷◌, ◌++◌}
+use Rattle.std.specs.Prelude.{Bool, true, false, ◌&&◌, nat_le, nat_lt, fold, map, if◌then◌else◌}
 use Rattle.av1_geometry.specs.declared.block_offset.BlockOffset.{BlockOffset}
 use Rattle.av1_geometry.specs.declared.block_size.BlockSize.{BlockSize}
 use Rattle.av1_geometry.specs.BlockSize.{width_mi, height_mi}

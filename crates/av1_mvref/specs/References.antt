@@ -41,7 +41,8 @@ kept_ahead g bo = kept_count g bo 5 + kept_count g bo 6 + kept_count g bo 7
 
 -- the references of a neighbour
 abbrev pub refs_of : Bool → Block → Refs
-refs_of there b = if there then record { is_there = true; first = number_at b 0; second = number_at b 1 } else record { is_there = false; first = 0; second = 8 }
+refs_of there b =
+    if there then record { is_there = true; first = number_at b 0; second = number_at b 1 } else record { is_there = false; first = 0; second = 8 }
 
 abbrev pub refs_above : Grid → BlockOffset → Refs
 refs_above g bo = refs_of (nat_lt 0 bo.y) (block_at g bo.x (bo.y - 1))

@@ -1,7 +1,8 @@
 // The contexts of a choice between one reference and two, and between two on one side and on both, by the neighbours.
 ghost use Rattle.std.specs.Prelude.{◌≡◌, ◌-◌, ◌≤◌, ◌||◌, nat_eq, true, false, if◌then◌else◌};
 ghost use Rattle.av1_blocks.specs.Grid.{IsInside};
-ghost use Rattle.av1_mvref.specs.References.{refs_of, is_single, is_backward, is_inter_there, is_compound, is_behind, same_direction, is_one_sided, ref_type_of_two, comp_ref_type_context, refs_above, refs_left, comp_mode_context};
+ghost use Rattle.av1_mvref.specs.References.{refs_of, is_single, is_backward, is_inter_there, is_compound, is_behind, same_direction};
+ghost use Rattle.av1_mvref.specs.References.{is_one_sided, ref_type_of_two, comp_ref_type_context, refs_above, refs_left, comp_mode_context};
 
 use av1_blocks::{Block, TileBlocks};
 use av1_geometry::{RefType, TileBlockOffset};

@@ -120,7 +120,8 @@ pub fn get_ref_frame_ctx_b0(blocks: &TileBlocks<'_>, bo: TileBlockOffset) -> usi
 pub fn get_pred_ctx_ll2_or_l3gld(blocks: &TileBlocks<'_>, bo: TileBlockOffset) -> usize
     requires inside { IsInside blocks.now bo.0 }
     requires ready { IsReady blocks.now }
-    ensures value { result ≡ by_counts (kept_count blocks.now bo.0 1 + kept_count blocks.now bo.0 2) (kept_count blocks.now bo.0 3 + kept_count blocks.now bo.0 4) }
+    ensures value { let kept = kept_count blocks.now bo.0 in
+        result ≡ by_counts (kept 1 + kept 2) (kept 3 + kept 4) }
     ensures bound { result ≤ 2 }
 {
     let first = kept(blocks, bo, RefType::LAST_FRAME) + kept(blocks, bo, RefType::LAST2_FRAME);

@@ -11,7 +11,8 @@ use Rattle.av1_unit.specs.Headline.{IsWritten}
 use Rattle.av1_unit.specs.Plain.{PlainUnit}
 use Rattle.av1_unit.specs.Report.{ReportLists}
 use Rattle.av1_program.specs.declared.status.Status.{Status}
-use Rattle.av1_program.specs.declared.status.Status.TheVariants.{Sent, Usage, SourceFault, TooLarge, BadText, BadShape, Refused, BadScript, TooLong, SinkFault, OutOfMemory}
+use Rattle.av1_program.specs.declared.status.Status.TheVariants.{Sent, Usage, SourceFault, TooLarge, BadText, BadShape}
+use Rattle.av1_program.specs.declared.status.Status.TheVariants.{Refused, BadScript, TooLong, SinkFault, OutOfMemory}
 use Rattle.av1_program.specs.Shape.{Shape, NoReading, Unfit, Fits, made, shape}
 use Rattle.av1_program.specs.Status.{IsBadShape, of_unit_error}
 use Rattle.av1_program.specs.declared.words.Word.{Word}

@@ -10,7 +10,8 @@ use Rattle.av1_tile.specs.declared.error.UnitError.TheVariants as units
 use Rattle.av1_input.specs.declared.error.ShapeError.{ShapeError}
 use Rattle.av1_input.specs.declared.error.ShapeError.TheVariants as shapes
 use Rattle.av1_program.specs.declared.status.Status.{Status}
-use Rattle.av1_program.specs.declared.status.Status.TheVariants.{Sent, Usage, SourceFault, TooLarge, BadText, BadShape, Refused, BadScript, TooLong, SinkFault, OutOfMemory}
+use Rattle.av1_program.specs.declared.status.Status.TheVariants.{Sent, Usage, SourceFault, TooLarge, BadText, BadShape}
+use Rattle.av1_program.specs.declared.status.Status.TheVariants.{Refused, BadScript, TooLong, SinkFault, OutOfMemory}
 
 -- what the process ends with
 abbrev pub number_of : Status → ℕ

@@ -19,7 +19,8 @@ trial_end kept = if kept then codes "kept" else codes "abandoned"
 -- a trial's tile, item and eighths of a bit, and what became of it
 unfoldable pub trial_line : TrialCost → List ℕ
 trial_line trial =
-    codes "trial " ++ decimal trial.tile ++ codes " " ++ decimal trial.item ++ codes " " ++ decimal trial.eighths ++ codes " " ++ trial_end trial.kept ++ codes "\n"
+    codes "trial " ++ decimal trial.tile ++ codes " " ++ decimal trial.item ++ codes " " ++ decimal trial.eighths ++ codes " "
+    ++ trial_end trial.kept ++ codes "\n"
 
 abbrev pub tile_lines : List TileReport → List ℕ
 tile_lines tiles = flat_map (λ t. tile_line t.0 t.1) (enumerate_from 0 tiles)

@@ -1,7 +1,8 @@
 // One run of the program.
 ghost use Rattle.std.specs.Prelude.{◌≡◌, ◌^◌, ◌<◌, ◌≤◌, ◌↔◌, ◌⊎◌, ℕ, List, [], IfOk, IfErr, IsSome, None, Some, length, map, string_bytes};
 ghost use Rattle.av1_bits.specs.Outside.{Rose, Still, appended};
-ghost use Rattle.av1_program.specs.Run.{AsksForInput, Concerns, Explains, HasBadScript, IsTooLong, IsAnswer, IsAnswerTo, IsGiven, IsRefusal, IsRefused, IsOutput};
+ghost use Rattle.av1_program.specs.Run.{AsksForInput, Concerns, Explains, HasBadScript, IsTooLong};
+ghost use Rattle.av1_program.specs.Run.{IsAnswer, IsAnswerTo, IsGiven, IsRefusal, IsRefused, IsOutput};
 ghost use Rattle.av1_program.specs.Run.{IsSentFront, IsValid, Reads, Receives, ReceivesFront, TakesAtMost, TakesMore};
 ghost use Rattle.av1_program.specs.Shape.{Fits, NoReading, Unfit, made, shape};
 ghost use Rattle.av1_program.specs.Status.{HasFixedLine, IsBadShape, line_of};

@@ -1,6 +1,7 @@
 // The text that tells a unit's bytes and its report.
 ghost use Rattle.std.specs.Prelude.{◌≡◌, ◌++◌, ◌+◌, ◌*◌, ◌^◌, ◌<◌, if◌then◌else◌, IfOk, OnOk, string_bytes};
-ghost use Rattle.av1_program.specs.Text.{abandoned_cost, kept_cost, made_line, tile_line, trial_end, trial_line, tile_lines, trial_lines, trials_line, report_text, summary, unit_text, weighted};
+ghost use Rattle.av1_program.specs.Text.{abandoned_cost, kept_cost, made_line, tile_line, trial_end, trial_line};
+ghost use Rattle.av1_program.specs.Text.{tile_lines, trial_lines, trials_line, report_text, summary, unit_text, weighted};
 
 use av1_geometry::OutOfMemory;
 use av1_unit::{Report, TileReport, TrialCost};

@@ -33,7 +33,8 @@ is_angle a = int_le (negsuc 2) a && int_le a (pos 3)
 -- how far the direction of a mode is turned
 abbrev pub angle_delta_kind : Bool → Tile → CurrentBlock → Kind ℤ
 angle_delta_kind chroma t b =
-    of_block b (rule 66 (is_intra t b) ∷ rule 72 (has_angle chroma t b) ∷ []) (λ a. rule 72 (is_angle a) ∷ []) (where_some (angle_mode chroma t b) angle_delta_element) (λ a. []) (AngleDelta chroma)
+    of_block b (rule 66 (is_intra t b) ∷ rule 72 (has_angle chroma t b) ∷ []) (λ a. rule 72 (is_angle a) ∷ [])
+    (where_some (angle_mode chroma t b) angle_delta_element) (λ a. []) (AngleDelta chroma)
 
 -- chroma is predicted from luma
 abbrev pub is_from_luma : Tile → Bool
@@ -45,4 +46,5 @@ are_factors f = nat_le (magnitude f.0) 16 && nat_le (magnitude f.1) 16 && nat_le
 
 -- the factors by which the planes of chroma are predicted from luma
 abbrev pub cfl_alphas_kind : Tile → CurrentBlock → Kind (ℤ × ℤ)
-cfl_alphas_kind t b = of_block b (rule 66 (is_intra t b) ∷ rule 73 (is_from_luma t) ∷ []) (λ f. rule 73 (are_factors f) ∷ []) factors_element (λ f. []) CflAlphas
+cfl_alphas_kind t b =
+    of_block b (rule 66 (is_intra t b) ∷ rule 73 (is_from_luma t) ∷ []) (λ f. rule 73 (are_factors f) ∷ []) factors_element (λ f. []) CflAlphas

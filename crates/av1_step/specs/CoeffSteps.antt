@@ -1,5 +1,6 @@
 -- The steps of transform blocks: their coefficients.
-use Rattle.std.specs.Prelude.{ℕ, ◌+◌, ◌-◌, ◌*◌, ◌/◌, ◌%◌, ◌^◌, ◌&&◌, ◌||◌, ◌==◌, not, min, List, [], ◌∷◌, Bool, true, false, Option, Some, length, nat_le, nat_lt, if◌then◌else◌, unwrap_or, slice_index_or, ℤ, pos, unsigned_abs}
+use Rattle.std.specs.Prelude.{ℕ, ◌+◌, ◌-◌, ◌*◌, ◌/◌, ◌%◌, ◌^◌, ◌&&◌, ◌||◌, ◌==◌, not, min, List, [], ◌∷◌, Bool, true, false}
+use Rattle.std.specs.Prelude.{Option, Some, length, nat_le, nat_lt, if◌then◌else◌, unwrap_or, slice_index_or, ℤ, pos, unsigned_abs}
 use Rattle.std.specs.List.{list_all}
 use Rattle.std.specs.Option.{option_map_or}
 use Rattle.av1_blocks.specs.Edges.{halvings}
@@ -118,7 +119,8 @@ transform_of t b plane bo =
 -- whole; chroma has the given type
 abbrev pub coeffs_in : Bool → Tile → ℕ → BlockOffset → TxType → TransformBlock → Element Distribution (TxType × List ℤ)
 coeffs_in by_coded t plane bo given b =
-    coeffs_element by_coded plane b.tx_size b.mode t.given.fi.use_reduced_tx_set given (block_contexts t.bc plane bo b.plane_bsize b.tx_size b.xdec b.ydec b.width b.height)
+    coeffs_element by_coded plane b.tx_size b.mode t.given.fi.use_reduced_tx_set given
+    (block_contexts t.bc plane bo b.plane_bsize b.tx_size b.xdec b.ydec b.width b.height)
     (scan_of t.given.scans b.tx_size)
 
 abbrev pub coeffs_by : Tile → ℕ → BlockOffset → TxType → TransformBlock → Element Distribution (TxType × List ℤ)

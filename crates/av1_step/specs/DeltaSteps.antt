@@ -37,7 +37,8 @@ abbrev pub segment_kind : Tile → CurrentBlock → Kind ℕ
 segment_kind t b =
     let s = t.given.fs.segmentation in
     let bo = place_of_block b in
-    of_block b (rule 67 (are_segments_coded s) ∷ []) (λ i. rule 67 (is_segment t b i) ∷ []) (segment_element t.bc.blocks bo (is_skipped t b) s.last_active_segid)
+    of_block b (rule 67 (are_segments_coded s) ∷ []) (λ i. rule 67 (is_segment t b i) ∷ [])
+    (segment_element t.bc.blocks bo (is_skipped t b) s.last_active_segid)
     (λ i. Over bo (size_of_block b) (λ x. record x { segmentation_idx = i }) ∷ []) Segment
 
 -- a delta is at most 63 in size, and those past the count are zero
@@ -55,4 +56,5 @@ block_deltas t = delta_count t.given.fs.deblock.block_delta_multi (planes_of (sa
 abbrev pub delta_lf_kind : Tile → CurrentBlock → Kind (List ℤ)
 delta_lf_kind t b =
     of_block b (rule 69 t.given.fs.deblock.block_deltas_enabled ∷ []) (λ ds. rule 69 (are_deltas (block_deltas t) ds) ∷ [])
-    (deltas_element t.given.fs.deblock.block_delta_multi (planes_of (sampling t))) (λ ds. Over (place_of_block b) (size_of_block b) (λ x. record x { deblock_deltas = ds }) ∷ []) DeltaLf
+    (deltas_element t.given.fs.deblock.block_delta_multi (planes_of (sampling t)))
+    (λ ds. Over (place_of_block b) (size_of_block b) (λ x. record x { deblock_deltas = ds }) ∷ []) DeltaLf

@@ -64,7 +64,8 @@ changed_by (Become b) t = record t {
 changed_by (ChromaMode m) t = record t { uv = Some m }
 changed_by (Listed c) t = record t { cands = c }
 changed_by (Picked n) t = record t { pick = n }
-changed_by (Filled plane bo size entry) t = record t { bc = with_coefficients plane bo size (halvings (xdec_of (sampling t)) plane) (halvings (ydec_of (sampling t)) plane) entry t.bc }
+changed_by (Filled plane bo size entry) t =
+    record t { bc = with_coefficients plane bo size (halvings (xdec_of (sampling t)) plane) (halvings (ydec_of (sampling t)) plane) entry t.bc }
 changed_by (Referred plane filter) t = record t { rs = record { planes = slice_set t.rs.planes plane (renewed (nat_eq plane 0) filter (plane_at t.rs plane)) } }
 
 abbrev pub changed_by_all : List Effect → Tile → Tile

@@ -25,7 +25,16 @@ pub record Given : Type 0 where
   pub eob_by_coded : Bool
 
 abbrev pub given_of : Unit → Given
-given_of u = record { tables = u.tables; scans = u.scans; fi = u.fi; fs = u.fs; refs = u.refs; metadata = u.metadata.items; delimiter = u.delimiter; eob_by_coded = u.eob_by_coded }
+given_of u = record {
+  tables = u.tables;
+  scans = u.scans;
+  fi = u.fi;
+  fs = u.fs;
+  refs = u.refs;
+  metadata = u.metadata.items;
+  delimiter = u.delimiter;
+  eob_by_coded = u.eob_by_coded;
+}
 
 -- whether the distributions of a frame learn
 abbrev pub learns_of : FrameInvariants → Bool

@@ -33,7 +33,8 @@ first_mode on = if on then NEARESTMV else DC_PRED
 -- whether a block is predicted from other frames
 abbrev pub is_inter_kind : Tile → CurrentBlock → Kind Bool
 is_inter_kind t b =
-    of_block b (rule 65 (not t.given.fi.intra_only) ∷ []) (λ on. []) (is_inter_element t.bc.blocks (place_of_block b)) (λ on. refers b (first_refs on) (first_mode on) ∷ Listed None ∷ []) IsInter
+    of_block b (rule 65 (not t.given.fi.intra_only) ∷ []) (λ on. []) (is_inter_element t.bc.blocks (place_of_block b))
+    (λ on. refers b (first_refs on) (first_mode on) ∷ Listed None ∷ []) IsInter
 
 -- one of the seven references alone
 abbrev pub is_one : RefType × RefType → Bool

@@ -32,12 +32,14 @@ gets_mode b m = Over (place_of_block b) (size_of_block b) (λ x. record x { mode
 -- the luma mode of a block, in a frame of intra blocks
 abbrev pub intra_mode_kf_kind : Tile → CurrentBlock → Kind PredictionMode
 intra_mode_kf_kind t b =
-    of_block b (rule 65 t.given.fi.intra_only ∷ rule 66 (is_intra t b) ∷ []) (λ m. rule 70 (is_luma_mode m) ∷ []) (intra_mode_kf_element t.bc.blocks (place_of_block b)) (λ m. gets_mode b m ∷ []) IntraModeKf
+    of_block b (rule 65 t.given.fi.intra_only ∷ rule 66 (is_intra t b) ∷ []) (λ m. rule 70 (is_luma_mode m) ∷ [])
+    (intra_mode_kf_element t.bc.blocks (place_of_block b)) (λ m. gets_mode b m ∷ []) IntraModeKf
 
 -- the luma mode of a block, in another frame
 abbrev pub intra_mode_kind : Tile → CurrentBlock → Kind PredictionMode
 intra_mode_kind t b =
-    of_block b (rule 65 (not t.given.fi.intra_only) ∷ rule 66 (is_intra t b) ∷ []) (λ m. rule 70 (is_luma_mode m) ∷ []) (intra_mode_element (size_of_block b)) (λ m. gets_mode b m ∷ []) IntraMode
+    of_block b (rule 65 (not t.given.fi.intra_only) ∷ rule 66 (is_intra t b) ∷ []) (λ m. rule 70 (is_luma_mode m) ∷ [])
+    (intra_mode_element (size_of_block b)) (λ m. gets_mode b m ∷ []) IntraMode
 
 -- the chroma of its place belongs to a block
 abbrev pub has_chroma : Tile → CurrentBlock → Bool
@@ -51,4 +53,5 @@ is_chroma_mode size m = nat_lt (prediction_mode_number m) (uv_modes size)
 abbrev pub uv_mode_kind : Tile → CurrentBlock → Kind PredictionMode
 uv_mode_kind t b =
     let size = size_of_block b in
-    of_block b (rule 66 (is_intra t b) ∷ rule 71 (has_chroma t b) ∷ []) (λ m. rule 71 (is_chroma_mode size m) ∷ []) (uv_mode_element (mode_at t b) size) (λ m. ChromaMode m ∷ []) UvMode
+    of_block b (rule 66 (is_intra t b) ∷ rule 71 (has_chroma t b) ∷ []) (λ m. rule 71 (is_chroma_mode size m) ∷ [])
+    (uv_mode_element (mode_at t b) size) (λ m. ChromaMode m ∷ []) UvMode

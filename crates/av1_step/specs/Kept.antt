@@ -1,5 +1,6 @@
 -- What every state of a tile keeps.
-use Rattle.std.specs.Prelude.{◌≡◌, ℕ, ◌+◌, ◌-◌, ◌*◌, ◌/◌, ◌%◌, ◌^◌, ◌<◌, ◌≤◌, ◌⊎◌, IsTrue, length, nat_eq, slice_index_or, List, [], ◌∷◌, true, Option, Some, None}
+use Rattle.std.specs.Prelude.{◌≡◌, ℕ, ◌+◌, ◌-◌, ◌*◌, ◌/◌, ◌%◌, ◌^◌, ◌<◌, ◌≤◌, ◌⊎◌, IsTrue, length}
+use Rattle.std.specs.Prelude.{nat_eq, slice_index_or, List, [], ◌∷◌, true, Option, Some, None}
 use Rattle.std.specs.Option.{ForSome}
 use Rattle.av1_blocks.specs.declared.block.Block.{Block}
 use Rattle.av1_blocks.specs.Block.{is_inter}
@@ -23,7 +24,8 @@ use Rattle.av1_mvref.specs.Candidates.{no_vector}
 use Rattle.av1_mvref.specs.ExtraSearch.{Candidates}
 use Rattle.av1_syntax.specs.Restoration.{plane_at, HasReferences, IsFilterOf}
 use Rattle.av1_syntax.specs.declared.restoration.TileRestorationState.{TileRestorationState}
-use Rattle.av1_step.specs.Effect.{Effect, Over, Parted, Unfilled, Transformed, SplitTransform, NewRow, CdefCoded, Become, ChromaMode, Listed, Picked, Filled, Referred, changed_by}
+use Rattle.av1_step.specs.Effect.{Effect, Over, Parted, Unfilled, Transformed, SplitTransform, NewRow}
+use Rattle.av1_step.specs.Effect.{CdefCoded, Become, ChromaMode, Listed, Picked, Filled, Referred, changed_by}
 use Rattle.av1_step.specs.Given.{IsGiven, tile_count, tile_cols, tile_rows}
 use Rattle.av1_step.specs.Tile.{Tile, CurrentBlock, grid_block, has_chroma_size, lrf_type_of, place_of_block, sampling, size_of_block}
 
@@ -43,8 +45,8 @@ pub record IsBlock (cols rows : ℕ) (bo : BlockOffset) (size : BlockSize) : Typ
   pub height : height_log2 size ≤ 6
   pub aligned : (bo.x % width_mi size ≡ 0) × (bo.y % height_mi size ≡ 0)
 
--- a block of the grid: in an intra frame, or where it is predicted within the frame, its mode is one of the thirteen of luma, its segment is one of the eight, and it is
--- one that vectors and references may be looked for in
+-- a block of the grid: in an intra frame, or where it is predicted within the frame, its mode is one of the thirteen of luma, its
+-- segment is one of the eight, and it is one that vectors and references may be looked for in
 pub record IsFine (fi : FrameInvariants) (b : Block) : Type 0 where
   pub mode : IsTrue fi.intra_only ⊎ (prediction_mode_number b.mode < 14) → prediction_mode_number b.mode < 13
   pub segment : b.segmentation_idx ≤ 7
@@ -53,7 +55,8 @@ pub record IsFine (fi : FrameInvariants) (b : Block) : Type 0 where
 -- a block of the grid where a block of a size was entered: it has the size, and a transform that is no longer on either side
 abbrev pub IsEntered : BlockSize → Block → Type 0
 IsEntered size x =
-    (x.bsize ≡ size) × (x.n4_w ≡ width_mi size) × (x.n4_h ≡ height_mi size) × (tx_width_log2 x.txsize ≤ width_log2 size) × (tx_height_log2 x.txsize ≤ height_log2 size)
+    (x.bsize ≡ size) × (x.n4_w ≡ width_mi size) × (x.n4_h ≡ height_mi size) × (tx_width_log2 x.txsize ≤ width_log2 size) ×
+    (tx_height_log2 x.txsize ≤ height_log2 size)
 
 -- the blocks of the part of a block that is inside the tile are all predicted from other frames, or none is
 abbrev pub IsAlike : Tile → CurrentBlock → Type 0
@@ -96,7 +99,8 @@ pub record IsTransform (cs : ChromaSampling) (plane : ℕ) (bo : BlockOffset) (s
   pub columns : bo.x % 16 / 2 ^ halvings (xdec_of cs) plane + 2 ^ (tx_width_log2 size - 2) ≤ 16 / 2 ^ halvings (xdec_of cs) plane
   pub rows : bo.y % 16 / 2 ^ halvings (ydec_of cs) plane + 2 ^ (tx_height_log2 size - 2) ≤ 16 / 2 ^ halvings (ydec_of cs) plane
 
--- a block of the tile that is like those of the area of a change: where that is the area of the current block, it is predicted from other frames exactly where the one at its place is
+-- a block of the tile that is like those of the area of a change: where that is the area of the current block, it is predicted
+-- from other frames exactly where the one at its place is
 abbrev pub IsLike : Tile → BlockOffset → BlockSize → Block → Type 0
 IsLike t bo size x = ForSome t.current (λ b. bo ≡ place_of_block b → size ≡ size_of_block b → is_inter x ≡ is_inter (grid_block t b))
 
@@ -109,7 +113,8 @@ LeavesAlike b bo size f =
 abbrev pub Fits : Tile → Effect → Type 0
 Fits t (Over bo size f) =
     IsBlock t.bc.blocks.cols t.bc.blocks.rows bo size × ((x : Block) → IsLike t bo size x → IsFine t.given.fi x → IsFine t.given.fi (f x))
-    × ForSome t.current (λ b. (x : Block) → IsEntered (size_of_block b) x → IsEntered (size_of_block b) (f x)) × ForSome t.current (λ b. LeavesAlike b bo size f)
+    × ForSome t.current (λ b. (x : Block) → IsEntered (size_of_block b) x → IsEntered (size_of_block b) (f x))
+    × ForSome t.current (λ b. LeavesAlike b bo size f)
 Fits t (Parted bo size subsize) = IsBlock t.bc.blocks.cols t.bc.blocks.rows bo size
 Fits t (Unfilled bo size) = IsBlock t.bc.blocks.cols t.bc.blocks.rows bo size
 Fits t (Transformed bo size width height) = IsBlock t.bc.blocks.cols t.bc.blocks.rows bo size

@@ -5,7 +5,10 @@ use Rattle.av1_geometry.specs.PredictionMode.{prediction_mode_number}
 use Rattle.av1_geometry.specs.Rules.{rule}
 use Rattle.av1_geometry.specs.declared.motion_vector.MotionVector.{MotionVector}
 use Rattle.av1_geometry.specs.declared.prediction_mode.PredictionMode.{PredictionMode}
-use Rattle.av1_geometry.specs.declared.prediction_mode.PredictionMode.TheVariants.{NEAR0MV, NEAR1MV, NEAR2MV, GLOBALMV, NEWMV, NEAR_NEAR0MV, NEAR_NEAR1MV, NEAR_NEAR2MV, NEAR_NEW0MV, NEAR_NEW1MV, NEAR_NEW2MV, NEW_NEAR0MV, NEW_NEAR1MV, NEW_NEAR2MV, GLOBAL_GLOBALMV, NEW_NEWMV}
+use Rattle.av1_geometry.specs.declared.prediction_mode.PredictionMode.TheVariants.{NEAR0MV, NEAR1MV, NEAR2MV, GLOBALMV, NEWMV, NEAR_NEAR0MV}
+use Rattle.av1_geometry.specs.declared.prediction_mode.PredictionMode.TheVariants.{NEAR_NEAR1MV, NEAR_NEAR2MV, NEAR_NEW0MV, NEAR_NEW1MV}
+use Rattle.av1_geometry.specs.declared.prediction_mode.PredictionMode.TheVariants.{NEAR_NEW2MV, NEW_NEAR0MV, NEW_NEAR1MV}
+use Rattle.av1_geometry.specs.declared.prediction_mode.PredictionMode.TheVariants.{NEW_NEAR2MV, GLOBAL_GLOBALMV, NEW_NEWMV}
 use Rattle.av1_mvref.specs.Candidates.{drl_context, no_vector}
 use Rattle.av1_mvref.specs.declared.candidate.CandidateMV.{CandidateMV}
 use Rattle.av1_syntax.specs.InterModes.{compound_mode_element, compound_modes, drl_mode_element, inter_mode_element, inter_modes, is_among}
@@ -62,13 +65,15 @@ takes t b m pick = Over (place_of_block b) (size_of_block b) (λ x. record x { m
 -- the mode of a block with one reference
 abbrev pub inter_mode_kind : Tile → CurrentBlock → Kind PredictionMode
 inter_mode_kind t b =
-    of_block b (rule 65 (not t.given.fi.intra_only) ∷ rule 66 (not (is_intra t b)) ∷ rule 79 (is_some t.cands && not (is_compound t b)) ∷ []) (λ m. rule 79 (is_among inter_modes m) ∷ [])
+    of_block b (rule 65 (not t.given.fi.intra_only) ∷ rule 66 (not (is_intra t b)) ∷ rule 79 (is_some t.cands && not (is_compound t b)) ∷ [])
+    (λ m. rule 79 (is_among inter_modes m) ∷ [])
     (inter_mode_element (listed_context t)) (λ m. takes t b m (first_pick m)) InterMode
 
 -- the mode of a block with two
 abbrev pub compound_mode_kind : Tile → CurrentBlock → Kind PredictionMode
 compound_mode_kind t b =
-    of_block b (rule 65 (not t.given.fi.intra_only) ∷ rule 66 (not (is_intra t b)) ∷ rule 79 (is_some t.cands && is_compound t b) ∷ []) (λ m. rule 79 (is_among compound_modes m) ∷ [])
+    of_block b (rule 65 (not t.given.fi.intra_only) ∷ rule 66 (not (is_intra t b)) ∷ rule 79 (is_some t.cands && is_compound t b) ∷ [])
+    (λ m. rule 79 (is_among compound_modes m) ∷ [])
     (compound_mode_element (listed_context t)) (λ m. takes t b m (first_pick m)) CompoundMode
 
 -- a mode that may take a later candidate than number i: new vectors are coded against the first three, and a near mode takes the second, third or fourth
@@ -83,5 +88,6 @@ variant i m = option_map_or (λ group. slice_index_or group i m) (near_group m) 
 abbrev pub drl_kind : ℕ → Tile → CurrentBlock → Kind Bool
 drl_kind i t b =
     of_block b
-    (rule 65 (not t.given.fi.intra_only) ∷ rule 66 (not (is_intra t b)) ∷ rule 80 (nat_lt (i + 1) (length (listed t)) && may_pick_after i (mode_at t b)) ∷ []) (λ later. [])
+    (rule 65 (not t.given.fi.intra_only) ∷ rule 66 (not (is_intra t b))
+    ∷ rule 80 (nat_lt (i + 1) (length (listed t)) && may_pick_after i (mode_at t b)) ∷ []) (λ later. [])
     (drl_mode_element (drl_context (listed t) i)) (λ later. if later then takes t b (variant i (mode_at t b)) (i + 1) else []) (Drl i)

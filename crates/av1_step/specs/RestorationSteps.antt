@@ -15,7 +15,8 @@ use Rattle.av1_step.specs.Tile.{Tile, sampling}
 
 -- a weight in its range; where the set of the self-guided filter has no such pass, the one that is not coded
 abbrev pub weight_fits : ℕ → ℕ → ℤ → Bool
-weight_fits set pass weight = int_within (number_at SGRPROJ_XQD_MIN pass) (number_at SGRPROJ_XQD_MAX pass) weight && (has_radius set pass || int_eq weight (unused_weight pass))
+weight_fits set pass weight =
+    int_within (number_at SGRPROJ_XQD_MIN pass) (number_at SGRPROJ_XQD_MAX pass) weight && (has_radius set pass || int_eq weight (unused_weight pass))
 
 abbrev pub weights_fit : ℕ → List ℤ → Bool
 weights_fit set weights = nat_eq (length weights) 2 && weight_fits set 0 (number_at weights 0) && weight_fits set 1 (number_at weights 1)

@@ -35,7 +35,8 @@ with_step t step c = record { interval = c.interval; context = tile_with t step 
 
 -- after a step: its symbols are coded, and its answer is entered
 abbrev pub after_step : Coding Tile → TileStep → Coding Tile
-after_step at step = with_step at.context step (along coded_by (learnt at.context.learns) (syntax_of (question_of step) at.context) (symbols_of step at.context) (numbers_at at))
+after_step at step =
+    with_step at.context step (along coded_by (learnt at.context.learns) (syntax_of (question_of step) at.context) (symbols_of step at.context) (numbers_at at))
 
 -- what a writer stores of a step
 abbrev pub tokens_of : TileStep → Tile → List Token
@@ -59,4 +60,5 @@ read_steps (q ∷ qs) bytes at =
 -- the first step, numbered from n on, that breaks a rule where it begins, and the rule
 abbrev pub first_broken_step : ℕ → Coding Tile → List TileStep → Option (ℕ × Rule)
 first_broken_step n at [] = None
-first_broken_step n at (step ∷ steps) = option_map_or (λ r. Some (n, r)) (first_broken (rules step at.context)) (first_broken_step (n + 1) (after_step at step) steps)
+first_broken_step n at (step ∷ steps) =
+    option_map_or (λ r. Some (n, r)) (first_broken (rules step at.context)) (first_broken_step (n + 1) (after_step at step) steps)

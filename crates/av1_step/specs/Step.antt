@@ -1,5 +1,6 @@
 -- The kinds of step. Each is a row: its place, its rules, what a reader does, what its answer changes.
-use Rattle.std.specs.Prelude.{Option, ℕ, ℤ, ◌^◌, option_map, ◌%◌, ◌&&◌, ◌==◌, List, [], ◌∷◌, Bool, true, false, Some, None, nat_le, nat_lt, if◌then◌else◌, zero, suc}
+use Rattle.std.specs.Prelude.{Option, ℕ, ℤ, ◌^◌, option_map, ◌%◌, ◌&&◌, ◌==◌, List, [], ◌∷◌, Bool}
+use Rattle.std.specs.Prelude.{true, false, Some, None, nat_le, nat_lt, if◌then◌else◌, zero, suc}
 use Rattle.std.specs.Option.{option_map_or}
 use Rattle.av1_cdf.specs.Distribution.{Distribution}
 use Rattle.av1_geometry.specs.Rules.{Check, first_broken, rule}
@@ -22,7 +23,9 @@ use Rattle.av1_syntax.specs.Partition.{has_cols, has_rows, is_allowed, partition
 use Rattle.av1_step.specs.declared.error.StepFault.{StepFault}
 use Rattle.av1_step.specs.declared.error.StepFault.TheVariants.{TooLong, Broken}
 use Rattle.av1_step.specs.declared.step.TileStep.{TileStep}
-use Rattle.av1_step.specs.declared.step.TileStep.TheVariants.{RowStart, Block, Partition, Skip, IntraModeKf, UvMode, IntraMode, Cdef, FilterIntra, Palette, Lrf, Segment, DeltaLf, AngleDelta, CflAlphas, TxNote, TxIntra, TxInter, IsInter, RefFrames, Coeffs, InterMode, CompoundMode, Drl, MvRefs, Mv}
+use Rattle.av1_step.specs.declared.step.TileStep.TheVariants.{RowStart, Block, Partition, Skip, IntraModeKf, UvMode, IntraMode, Cdef}
+use Rattle.av1_step.specs.declared.step.TileStep.TheVariants.{FilterIntra, Palette, Lrf, Segment, DeltaLf, AngleDelta, CflAlphas, TxNote}
+use Rattle.av1_step.specs.declared.step.TileStep.TheVariants.{TxIntra, TxInter, IsInter, RefFrames, Coeffs, InterMode, CompoundMode, Drl, MvRefs, Mv}
 use Rattle.av1_step.specs.AngleSteps.{angle_delta_kind, cfl_alphas_kind}
 use Rattle.av1_step.specs.DeltaSteps.{segment_kind, delta_lf_kind}
 use Rattle.av1_step.specs.CoeffSteps.{chroma_coeffs_kind, luma_coeffs_kind}

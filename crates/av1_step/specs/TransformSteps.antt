@@ -49,7 +49,8 @@ abbrev pub tx_intra_kind : Tile → CurrentBlock → Kind TxSize
 tx_intra_kind t b =
     let bo = place_of_block b in
     let size = size_of_block b in
-    of_block b (rule 66 (is_intra t b) ∷ rule 76 (has_tx_choice t size) ∷ []) (λ tx. rule 76 (is_offered (max_tx_size size) tx) ∷ []) (tx_size_element t.bc bo size)
+    of_block b (rule 66 (is_intra t b) ∷ rule 76 (has_tx_choice t size) ∷ []) (λ tx. rule 76 (is_offered (max_tx_size size) tx) ∷ [])
+    (tx_size_element t.bc bo size)
     (λ tx. gets_tx_size b tx ∷ Transformed bo size (2 ^ tx_width_log2 tx) (2 ^ tx_height_log2 tx) ∷ []) TxIntra
 
 -- the size of an inter block's transforms: the largest, or half of that where it is split
@@ -61,5 +62,6 @@ abbrev pub tx_inter_kind : Tile → CurrentBlock → Kind Bool
 tx_inter_kind t b =
     let bo = place_of_block b in
     let size = size_of_block b in
-    of_block b (rule 65 (not t.given.fi.intra_only) ∷ rule 66 (not (is_intra t b)) ∷ rule 76 (has_tx_choice t size && not (standing_at t b).skip) ∷ []) (λ split. []) (split_element t.bc bo size 0 0)
+    of_block b (rule 65 (not t.given.fi.intra_only) ∷ rule 66 (not (is_intra t b)) ∷ rule 76 (has_tx_choice t size && not (standing_at t b).skip) ∷ [])
+    (λ split. []) (split_element t.bc bo size 0 0)
     (λ split. SplitTransform bo size split ∷ gets_tx_size b (inter_tx_size size split) ∷ []) TxInter

@@ -8,7 +8,8 @@ use Rattle.av1_geometry.specs.declared.motion_vector.MotionVector.{MotionVector}
 use Rattle.av1_geometry.specs.declared.motion_vector.MvSubpelPrecision.{MvSubpelPrecision}
 use Rattle.av1_geometry.specs.declared.motion_vector.MvSubpelPrecision.TheVariants.{MV_SUBPEL_NONE, MV_SUBPEL_LOW_PRECISION, MV_SUBPEL_HIGH_PRECISION}
 use Rattle.av1_geometry.specs.declared.prediction_mode.PredictionMode.{PredictionMode}
-use Rattle.av1_geometry.specs.declared.prediction_mode.PredictionMode.TheVariants.{NEWMV, NEAREST_NEWMV, NEW_NEARESTMV, NEAR_NEW0MV, NEAR_NEW1MV, NEAR_NEW2MV, NEW_NEAR0MV, NEW_NEAR1MV, NEW_NEAR2MV, NEW_NEWMV}
+use Rattle.av1_geometry.specs.declared.prediction_mode.PredictionMode.TheVariants.{NEWMV, NEAREST_NEWMV, NEW_NEARESTMV, NEAR_NEW0MV, NEAR_NEW1MV}
+use Rattle.av1_geometry.specs.declared.prediction_mode.PredictionMode.TheVariants.{NEAR_NEW2MV, NEW_NEAR0MV, NEW_NEAR1MV, NEW_NEAR2MV, NEW_NEWMV}
 use Rattle.av1_model.specs.Element.{known}
 use Rattle.av1_mvref.specs.ExtraSearch.{Candidates, candidates}
 use Rattle.av1_syntax.specs.InterModes.{is_among}
@@ -32,7 +33,8 @@ find has_tr a = MvRefs has_tr
 
 -- the candidates of a block are found; nothing is coded
 abbrev pub mv_refs_kind : Bool → Tile → CurrentBlock → Kind (Unit {0})
-mv_refs_kind has_tr t b = of_block b (rule 65 (not t.given.fi.intra_only) ∷ rule 66 (not (is_intra t b)) ∷ []) (λ a. []) (known tt) (λ a. Listed (Some (candidates_of has_tr t b)) ∷ []) (find has_tr)
+mv_refs_kind has_tr t b = of_block b (rule 65 (not t.given.fi.intra_only) ∷ rule 66 (not (is_intra t b)) ∷ []) (λ a. []) (known tt)
+    (λ a. Listed (Some (candidates_of has_tr t b)) ∷ []) (find has_tr)
 
 -- the precision of the frame's vectors
 abbrev pub precision_of : FrameInvariants → MvSubpelPrecision

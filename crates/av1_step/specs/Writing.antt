@@ -13,7 +13,8 @@ use Rattle.av1_step.specs.Tile.{Tile, with_numbers}
 -- the whole path of the step from this tile on, or its beginning where the call is refused; then the numbers are these
 abbrev pub WroteStep : {W U E : Type 0} → Ghosts W → Result U E → TileStep → Tile → W → W → List ℕ → Type 0
 WroteStep writer result step t old new numbers =
-    Wrote coded_by (learnt t.learns) result (syntax_of (question_of step) t) step (standing (writer.position old) t.numbers) (standing (writer.position new) numbers)
+    Wrote coded_by (learnt t.learns) result (syntax_of (question_of step) t) step (standing (writer.position old) t.numbers)
+    (standing (writer.position new) numbers)
 
 -- Writes a step: writer and numbers go the step's path, its answer is entered, and each checkpoint stands for what it stood for. A refusal leaves
 -- them after a front of the path, and the rest of the state as it was.

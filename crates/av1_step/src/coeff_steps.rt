@@ -1,5 +1,6 @@
 // The steps of transform blocks: their coefficients.
-ghost use Rattle.std.specs.Prelude.{◌≡◌, ℕ, ◌+◌, ◌-◌, ◌*◌, ◌/◌, min, ◌%◌, ◌^◌, ◌<◌, ◌≤◌, ◌&&◌, ◌==◌, nat_lt, true, false, Some, None, IfSome, length, pos, slice_index_or, unsigned_abs};
+ghost use Rattle.std.specs.Prelude.{◌≡◌, ℕ, ◌+◌, ◌-◌, ◌*◌, ◌/◌, min, ◌%◌, ◌^◌, ◌<◌, ◌≤◌, ◌&&◌, ◌==◌, nat_lt};
+ghost use Rattle.std.specs.Prelude.{true, false, Some, None, IfSome, length, pos, slice_index_or, unsigned_abs};
 ghost use Rattle.std.specs.List.{list_all};
 ghost use Rattle.av1_coef.specs.Contexts.{coded_area};
 ghost use Rattle.av1_coef.specs.Scans.{each_once, is_in};

@@ -126,8 +126,8 @@ coeffs_among by_coded types without size p contexts scans =
     after (flag (adaptive (codes "txb_skip_cdf") (size_context size ∷ contexts.txb_skip_ctx ∷ [])))
     (λ none. choose none (known (without, []))
     (after types (λ t.
-        let levels = block_element by_coded size p contexts.dc_sign_ctx (class_of t) (scans (class_of t)) in
-        renamed levels (λ levels. (t, levels)) (λ a. a.1)) (λ a. a.0))) (λ a. are_none a.1)
+    let levels = block_element by_coded size p contexts.dc_sign_ctx (class_of t) (scans (class_of t)) in
+    renamed levels (λ levels. (t, levels)) (λ a. a.1)) (λ a. a.0))) (λ a. are_none a.1)
 
 abbrev pub is_inter : PredictionMode → Bool
 is_inter mode = nat_le 14 (prediction_mode_number mode)

@@ -57,10 +57,12 @@ module _ {W : Type 0} (writer : Ghosts W) where
   -- marks keep the beginnings of trials, the innermost last
   abbrev pub MarksAre : Position → W → TileState → List TrialMark → List Trial → Type 0
   MarksAre start w tile marks [] = marks ≡ []
-  MarksAre start w tile marks (t ∷ ts) = (outer : List TrialMark) × (m : TrialMark) × (marks ≡ outer ++ m ∷ []) × MarkIs start w tile m t × MarksAre start w tile outer ts
+  MarksAre start w tile marks (t ∷ ts) = (outer : List TrialMark) × (m : TrialMark) × (marks ≡ outer ++ m ∷ []) × MarkIs start w tile m t
+      × MarksAre start w tile outer ts
 
   -- tile, writer, marks and costs are those of a script's progress
-  pub record StandsAt (start : Position) (tile : TileState) (w : W) (marks : List TrialMark) (begun : List ℕ) (costs : List TrialCost) (p : Progress) : Type 0 where
+  pub record StandsAt (start : Position) (tile : TileState) (w : W) (marks : List TrialMark) (begun : List ℕ) (costs : List TrialCost)
+      (p : Progress) : Type 0 where
     pub tile_is : tile_of tile ≡ p.at.context
     pub coded : HasCoded start (writer.position w) p.at.interval
     pub marks_stand : AreMarks writer w tile marks

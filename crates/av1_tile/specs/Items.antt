@@ -1,5 +1,6 @@
 -- One item after another: when it can come, and what it does to tile, writer and marks.
-use Rattle.std.specs.Prelude.{◌≡◌, ◌⊎◌, ℕ, zero, suc, ◌==◌, ◌-◌, ◌<◌, IsTrue, List, [], ◌∷◌, ◌++◌, length, Bool, true, false, Option, Some, None, Result, Ok, IsErr, IsOkAnd, IfOk, OnOk, OnErr}
+use Rattle.std.specs.Prelude.{◌≡◌, ◌⊎◌, ℕ, zero, suc, ◌==◌, ◌-◌, ◌<◌, IsTrue, List, [], ◌∷◌, ◌++◌, length, Bool}
+use Rattle.std.specs.Prelude.{true, false, Option, Some, None, Result, Ok, IsErr, IsOkAnd, IfOk, OnOk, OnErr}
 use Rattle.std.specs.Option.{ForSome}
 use Rattle.av1_cdf.specs.Log.{KeepsUndone}
 use Rattle.av1_ec.specs.Rate.{tell_frac_at}
@@ -30,8 +31,8 @@ abbrev pub MayStep : Tile → ℕ → List TrialMark → TileStep → Type 0
 MayStep t bits marks step =
     (step_fault t bits step ≡ None) × (is_untried step ≡ true → marks ≡ []) × ForSome (place_of (Step step) t) (IsNearLast marks)
 
--- An item can come after so many bits: a step has no fault, a trial that ends has begun, one that begins does so inside the tile, the item is in the superblock of the
--- last mark, and what no trial has comes outside of all trials.
+-- An item can come after so many bits: a step has no fault, a trial that ends has begun, one that begins does so inside the tile,
+-- the item is in the superblock of the last mark, and what no trial has comes outside of all trials.
 pub record CanCome (t : Tile) (bits : ℕ) (marks : List TrialMark) (item : Item) : Type 0 where
   pub step : (step : TileStep) → item ≡ Step step → step_fault t bits step ≡ None
   pub begun : (item ≡ Keep) ⊎ (item ≡ Abandon) → 0 < length marks

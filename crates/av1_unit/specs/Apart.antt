@@ -1,5 +1,6 @@
 -- Taking a unit apart, by nothing but its bytes: OBUs by their kinds and lengths, and tiles by their sizes.
-use Rattle.std.specs.Prelude.{ℕ, zero, suc, ◌+◌, ◌*◌, ◌%◌, ◌/◌, ◌==◌, ◌&&◌, List, [], ◌∷◌, length, take, drop, nat_le, nat_lt, if◌then◌else◌, Option, Some, None, option_map, option_and_then}
+use Rattle.std.specs.Prelude.{ℕ, zero, suc, ◌+◌, ◌*◌, ◌%◌, ◌/◌, ◌==◌, ◌&&◌, List, [], ◌∷◌, length, take, drop}
+use Rattle.std.specs.Prelude.{nat_le, nat_lt, if◌then◌else◌, Option, Some, None, option_map, option_and_then}
 use Rattle.av1_frame.specs.Obu.{obu_type_number}
 use Rattle.av1_frame.specs.declared.obu.ObuType.TheVariants.{OBU_FRAME}
 use Rattle.av1_model.specs.Codes.{leb128_read}
@@ -35,7 +36,9 @@ with_obu o u = record u { obus = o ∷ u.obus }
 unfoldable pub take_unit : ℕ → List ℕ → Option TakenUnit
 take_unit zero bytes = None
 take_unit (suc n) bytes =
-    option_and_then (λ o. if o.kind == obu_type_number OBU_FRAME then Some (record { obus = (o.kind, o.payload) ∷ []; rest = o.rest }) else option_map (with_obu (o.kind, o.payload)) (take_unit n o.rest)) (take_obu bytes)
+    option_and_then (λ o.
+    if o.kind == obu_type_number OBU_FRAME then Some (record { obus = (o.kind, o.payload) ∷ []; rest = o.rest })
+    else option_map (with_obu (o.kind, o.payload)) (take_unit n o.rest)) (take_obu bytes)
 
 -- the payload of an OBU: what its header and length leave of its bytes
 abbrev pub payload_of : Obu → List ℕ
