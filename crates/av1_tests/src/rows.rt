@@ -253,23 +253,25 @@ fn counted(alloc: Global, unit: &Unit) -> Result<Result<TileReport, UnitError>, 
     Ok(count_tile(alloc, unit, 0))
 }
 
+// What is told of the tile of a row's items, or the error.
+fn count_of(alloc: Global, row: &str) -> Result<String, Fail> {
+    let unit = unit(alloc, 8, items(alloc, row)?)?;
+    match counted(alloc, &unit)? {
+        Ok(told) => Ok(format!(in alloc; "{} {}", told.bytes, told.bits)?),
+        Err(error) => Ok(format!(in alloc; "{error:?}")?),
+    }
+}
+
 #[test]
 fn a_tile_is_counted(rt: HostRuntime) -> Result<(), Fail> {
-    let alloc = rt.alloc();
-    let b8 = block(0, 0, BlockSize::BLOCK_8X8);
-    let valid = unit(alloc, 8, vec![in alloc; b8, skip(false)]?)?;
-    match counted(alloc, &valid)? {
-        Ok(told) => assert_eq!(rt; (told.bytes, told.bits), (1, 3)),
-        Err(_) => return Err("not counted".into()),
-    }
-    let refused = unit(alloc, 8, vec![in alloc; skip(true)]?)?;
-    let want = UnitError::Refused {
-        place: Place::Item { tile: 0, item: 0 },
-        rule: Rule(64),
-    };
-    match counted(alloc, &refused)? {
-        Ok(_) => return Err("counted".into()),
-        Err(error) => assert_eq!(rt; error, want),
+    for (row, want) in [
+        ("block 0 0 3,skip 0", "1 3"),
+        (
+            "skip 1",
+            "Refused { place: Item { tile: 0, item: 0 }, rule: Rule(64) }",
+        ),
+    ] {
+        assert_eq!(rt; count_of(rt.alloc(), row)?.as_str(), want);
     }
     Ok(())
 }
@@ -293,21 +295,6 @@ fn a_script_may_be_long(rt: HostRuntime) -> Result<(), Fail> {
     Ok(())
 }
 
-#[test]
-fn sides_of_64_are_written_in_six_bits(rt: HostRuntime) -> Result<(), Fail> {
-    let alloc = rt.alloc();
-    let unit = unit(alloc, 64, Vec::new(alloc))?;
-    let Ok((bytes, _)) = written(alloc, &unit) else {
-        return Err("not written".into());
-    };
-    // the temporal delimiter, and the sequence header behind its OBU's header and length
-    let want = [
-        0x12, 0x00, 0x0a, 0x06, 0x18, 0x15, 0x7f, 0xfc, 0x04, 0x40, 0x32,
-    ];
-    assert!(rt; bytes.starts_with(&want));
-    Ok(())
-}
-
 // The bytes of a unit in hex digits, and its tiles; or the error.
 fn told(alloc: Global, unit: &Unit) -> Result<String, Fail> {
     match written(alloc, unit) {
@@ -322,6 +309,14 @@ fn told(alloc: Global, unit: &Unit) -> Result<String, Fail> {
     }
 }
 
+#[test]
+fn sides_of_64_are_written_in_six_bits(rt: HostRuntime) -> Result<(), Fail> {
+    let unit = unit(rt.alloc(), 64, Vec::new(rt.alloc()))?;
+    // the temporal delimiter, and the sequence header behind its OBU's header and length
+    assert!(rt; told(rt.alloc(), &unit)?.starts_with("12000a0618157ffc044032"));
+    Ok(())
+}
+
 // A still picture of two superblocks, each of which is a tile.
 fn two_tiles(alloc: Global, scripts: usize) -> Result<Unit, Fail> {
     let mut unit = grey(alloc, 128, 64)?;
@@ -330,49 +325,63 @@ fn two_tiles(alloc: Global, scripts: usize) -> Result<Unit, Fail> {
     Ok(unit)
 }
 
-#[test]
-fn tiles_are_led_by_their_sizes(rt: HostRuntime) -> Result<(), Fail> {
-    let alloc = rt.alloc();
-    let want = "12000a0618197ffe02203209186400000000008080 1 1 1 1";
-    assert_eq!(rt; told(alloc, &two_tiles(alloc, 2)?)?.as_str(), want);
-    let want = "Refused { place: Scripts, rule: Rule(55) }";
-    assert_eq!(rt; told(alloc, &two_tiles(alloc, 1)?)?.as_str(), want);
+// A row is what a unit without items is, and what is told of it: two tiles are led by their sizes, metadata come before the frame,
+// and a frame may learn nothing and have no delimiter. Tables are looked at first, scans behind them, and then the frame.
+const UNITS: &str = "two scripts;12000a0618197ffe02203209186400000000008080 1 1 1 1
+one script;Refused { place: Scripts, rule: Rule(55) }
+no delimiter;0a051808bf01103206164000000080 1 1
+no light;Refused { place: Metadata { index: 0 }, rule: Rule(50) }
+light;12000a051808bf01102a060103e80190803206164000000080 1 1
+no update;12000a051808bf01103206964000000080 1 1
+short tables;Refused { place: Tables, rule: Rule(1) }
+few scans;Refused { place: Scans, rule: Rule(4) }";
+
+// Changes an empty unit to that of a row.
+fn change(unit: &mut Unit, row: &str) -> Result<(), Fail> {
+    match row {
+        "no delimiter" => unit.delimiter = false,
+        "no light" => unit.metadata.push(Metadata::Cll)?,
+        "light" => {
+            unit.metadata.push(Metadata::Cll)?;
+            unit.fi.sequence.content_light = Some(ContentLight {
+                max_content_light_level: 1000,
+                max_frame_average_light_level: 400,
+            });
+        }
+        "no update" => unit.fi.disable_cdf_update = true,
+        "short tables" => {
+            if let Some(set) = unit.tables.sets.last_mut() {
+                set.truncate(5527);
+            }
+        }
+        "few scans" => unit.scans.scans.truncate(18),
+        _ => {}
+    }
     Ok(())
 }
 
-#[test]
-fn a_unit_may_have_no_delimiter(rt: HostRuntime) -> Result<(), Fail> {
-    let alloc = rt.alloc();
-    let mut unit = unit(alloc, 8, Vec::new(alloc))?;
-    unit.delimiter = false;
-    let want = "0a051808bf01103206164000000080 1 1";
-    assert_eq!(rt; told(alloc, &unit)?.as_str(), want);
-    Ok(())
+// The unit of a row: a frame of 8x8, two tiles, or no frame that is valid, so that what is told comes before it.
+fn unit_of(alloc: Global, row: &str) -> Result<Unit, Fail> {
+    match row {
+        "two scripts" => two_tiles(alloc, 2),
+        "one script" => two_tiles(alloc, 1),
+        "short tables" | "few scans" => unit(alloc, 0, Vec::new(alloc)),
+        _ => unit(alloc, 8, Vec::new(alloc)),
+    }
+}
+
+fn told_of(alloc: Global, row: &str) -> Result<String, Fail> {
+    let mut unit = unit_of(alloc, row)?;
+    change(&mut unit, row)?;
+    told(alloc, &unit)
 }
 
 #[test]
-fn metadata_come_before_the_frame(rt: HostRuntime) -> Result<(), Fail> {
-    let alloc = rt.alloc();
-    let mut unit = unit(alloc, 8, Vec::new(alloc))?;
-    unit.metadata.push(Metadata::Cll)?;
-    let want = "Refused { place: Metadata { index: 0 }, rule: Rule(50) }";
-    assert_eq!(rt; told(alloc, &unit)?.as_str(), want);
-    unit.fi.sequence.content_light = Some(ContentLight {
-        max_content_light_level: 1000,
-        max_frame_average_light_level: 400,
-    });
-    let want = "12000a051808bf01102a060103e80190803206164000000080 1 1";
-    assert_eq!(rt; told(alloc, &unit)?.as_str(), want);
-    Ok(())
-}
-
-#[test]
-fn a_frame_may_learn_nothing(rt: HostRuntime) -> Result<(), Fail> {
-    let alloc = rt.alloc();
-    let mut unit = unit(alloc, 8, Vec::new(alloc))?;
-    unit.fi.disable_cdf_update = true;
-    let want = "12000a051808bf01103206964000000080 1 1";
-    assert_eq!(rt; told(alloc, &unit)?.as_str(), want);
+fn units_without_items_are_told(rt: HostRuntime) -> Result<(), Fail> {
+    for row in UNITS.lines() {
+        let (name, want) = row.split_once(';').unwrap_or((row, ""));
+        assert_eq!(rt; told_of(rt.alloc(), name)?.as_str(), want, "{row}");
+    }
     Ok(())
 }
 
@@ -434,34 +443,6 @@ fn tables_are_looked_at_first(rt: HostRuntime) -> Result<(), Fail> {
     ] {
         assert_eq!(rt; broken_table(alloc, from, place, number)?, rule);
     }
-    Ok(())
-}
-
-#[test]
-fn short_tables_are_looked_at_first(rt: HostRuntime) -> Result<(), Fail> {
-    let alloc = rt.alloc();
-    let mut short = unit(alloc, 0, Vec::new(alloc))?;
-    if let Some(set) = short.tables.sets.last_mut() {
-        set.truncate(5527);
-    }
-    let want = UnitError::Refused {
-        place: Place::Tables,
-        rule: Rule(1),
-    };
-    assert_eq!(rt; written(alloc, &short).err(), Some(want));
-    Ok(())
-}
-
-#[test]
-fn scans_are_looked_at_behind_the_tables(rt: HostRuntime) -> Result<(), Fail> {
-    let alloc = rt.alloc();
-    let mut few = unit(alloc, 0, Vec::new(alloc))?;
-    few.scans.scans.truncate(18);
-    let want = UnitError::Refused {
-        place: Place::Scans,
-        rule: Rule(4),
-    };
-    assert_eq!(rt; written(alloc, &few).err(), Some(want));
     Ok(())
 }
 
