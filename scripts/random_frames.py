@@ -353,9 +353,16 @@ class Tile:
                 self.put("CflAlphas", a=alphas)
             elif turned and 1 <= uv <= 8:
                 self.put("AngleDelta", chroma=True, a=self.r.randint(-3, 3))
+        transform = self.tools_and_transform(block, mode)
+        if not skip:
+            self.residual(x, y, block, transform, uv)
+
+    def tools_and_transform(self, block, mode):
+        """What comes behind the modes of an intra block: no palette, no filter, and the size of its transforms, which is returned."""
+        f, frame = self.f, self.f.frame
         if frame["allow_screen_content_tools"] and block >= 3:
             self.put("Palette", a=False)
-        if f.seq["enable_filter_intra"] and mode == 0 and max(w, h) <= 32:
+        if f.seq["enable_filter_intra"] and mode == 0 and max(k.BLOCKS[block]) <= 32:
             self.put("FilterIntra", a=False)
         transform = k.largest(block)
         if frame["tx_mode_select"] and block:
@@ -364,8 +371,7 @@ class Tile:
             self.put("TxIntra", a=transform)
         else:
             self.put("TxNote")
-        if not skip:
-            self.residual(x, y, block, transform, uv)
+        return transform
 
     def segment(self, x, y, block, skip):
         last = self.f.frame["segmentation"]["last_active_segid"]

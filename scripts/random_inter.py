@@ -133,7 +133,7 @@ class Tile(random_frames.Tile):
     # ---- intra blocks
 
     def intra(self, x, y, block):
-        f, frame = self.f, self.f.frame
+        f = self.f
         mode = f.below(13)
         self.put("IntraMode", a=mode)
         if block >= 3 and 1 <= mode <= 8:
@@ -146,18 +146,7 @@ class Tile(random_frames.Tile):
                 self.put("CflAlphas", a=self.r.choice([[f.below(17), -1 - f.below(16)], [0, 1 + f.below(16)], [-1 - f.below(16), 0]]))
             elif block >= 3 and 1 <= uv <= 8:
                 self.put("AngleDelta", chroma=True, a=self.r.randint(-3, 3))
-        if frame["allow_screen_content_tools"] and block >= 3:
-            self.put("Palette", a=False)
-        if f.seq["enable_filter_intra"] and mode == 0 and max(k.BLOCKS[block]) <= 32:
-            self.put("FilterIntra", a=False)
-        transform = k.largest(block)
-        if frame["tx_mode_select"] and block:
-            for _ in range(f.below(3)):
-                transform = k.smaller(transform)
-            self.put("TxIntra", a=transform)
-        else:
-            self.put("TxNote")
-        return transform, uv
+        return self.tools_and_transform(block, mode), uv
 
     # ---- inter blocks
 
