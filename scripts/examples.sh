@@ -3,7 +3,7 @@
 #
 # Runs each unit of examples/ and its folders and compares its status and what it prints with the file NAME.out beside it.
 # PROGRAM is a built av1_write, by default the one that `rt run` left in crates/av1_write/out. Where there is none, `rt try` builds one
-# without the proofs and runs it on all units, in about half a minute; a kit whose `rt try` takes one input at a time takes that for
+# without the proofs and runs it on all units, in about a minute; a kit whose `rt try` takes one input at a time takes that for
 # each unit. Ends with status 1 where one differs.
 set -u
 here=$(CDPATH= cd -- "$(dirname -- "$0")/.." && pwd)
