@@ -1,5 +1,5 @@
 -- The candidates of a block are made of the vectors of the blocks around it, so they are valid where those are; and what the context of its mode comes to.
-use Rattle.std.proofs.Common.{◌≡◌, ℕ, zero, suc, ◌+◌, ◌-◌, ◌*◌, ◌/◌, ◌%◌, ◌<◌, ◌≤◌, ◌<ℤ◌, ◌≤ℤ◌, ℤ, pos, negsuc, neg_ℤ, min, List, [], ◌∷◌, ◌++◌, Bool, true, false, length, get_or, map, take, not, ◌&&◌, nat_eq, nat_le, nat_lt, if◌then◌else◌, inl, inr, refl, sym, subst, arith}
+use Rattle.std.proofs.Common.{ℕ, zero, suc, ◌+◌, ◌-◌, ◌*◌, ◌/◌, ◌%◌, ◌<◌, ◌≤◌, ◌<ℤ◌, ◌≤ℤ◌, ℤ, pos, negsuc, neg_ℤ, min, List, [], ◌∷◌, ◌++◌, Bool, true, false, length, get_or, map, take, not, ◌&&◌, nat_eq, nat_le, nat_lt, if◌then◌else◌, inl, inr, sym, subst, arith}
 use Rattle.std.specs.Prelude.{filter, flat_map, fold}
 use Rattle.std.specs.List.{All, list_any}
 use Rattle.std.specs.Int.{int_max, int_min}
@@ -20,10 +20,10 @@ use Rattle.av1_geometry.specs.declared.constants.TheConstants.{MV_LOW, MV_UPP}
 use Rattle.av1_geometry.specs.declared.motion_vector.MotionVector.{MotionVector}
 use Rattle.av1_geometry.specs.declared.ref_type.RefType.{RefType}
 use Rattle.av1_mvref.specs.declared.candidate.CandidateMV.{CandidateMV}
-use Rattle.av1_mvref.specs.Candidates.{no_vector, same, same_mv, same_ref, ref_of, mv_of, vector_of, pair_of, given, distinct, entries, insert_by_weight, by_weight, kept_near, clamped_mv, clamped, sides, mode_context, matches_of, either}
-use Rattle.av1_mvref.specs.ExtraSearch.{Referred, Candidates, searched_along, searched, is_frame, referred_in, referred, same_side, turned, with_mv, with_vector, with_block, to_same, to_others, vectors_to, pair_at, with_pairs, with_both, searched_extra, completed, scanned, wanted_of, found, candidates}
-use Rattle.av1_mvref.specs.Neighbours.{Neighbour, Edge, edge, reach, shown, blocks_along, begins, at_distance, steps, line, line_after, neighbour, corner, top_right, top_left, second, near_done, second_done, row_and_column, around, near_neighbours, far_neighbours}
-use Rattle.av1_step.specs.Kept.{candidate_at, AreCandidates}
+use Rattle.av1_mvref.specs.Candidates.{no_vector, same, same_mv, same_ref, ref_of, mv_of, vector_of, pair_of, given, distinct, entries, insert_by_weight, by_weight, kept_near, clamped_mv, clamped, sides, matches_of, either}
+use Rattle.av1_mvref.specs.ExtraSearch.{Referred, searched_along, searched, is_frame, referred_in, referred, same_side, turned, with_mv, with_vector, with_block, to_same, to_others, vectors_to, pair_at, with_pairs, with_both, searched_extra, completed, scanned, wanted_of, found, candidates}
+use Rattle.av1_mvref.specs.Neighbours.{Neighbour, Edge, reach, shown, blocks_along, begins, at_distance, steps, line, line_after, neighbour, corner, top_right, top_left, second, row_and_column, near_neighbours, far_neighbours}
+use Rattle.av1_step.specs.Kept.{AreCandidates}
 
 -- a block's vectors are valid
 abbrev pub HasVectors : Block → Type 0

@@ -1,11 +1,11 @@
 -- Levels are laid out by position.
-use Rattle.std.proofs.Common.{◌≡◌, ℕ, suc, zero, ◌+◌, ◌-◌, ◌<◌, ◌≤◌, ◌||◌, ◌&&◌, not, List, [], ◌∷◌, ◌++◌, Bool, true, false, length, map, take, drop, set, get_or, nat_eq, nat_lt, nat_le, slice_index, slice_index_or, replicate, ℤ, pos, negsuc, unsigned_abs, ◌^◌, to_z, of_z, w32, refl, sym, ap, subst, ◌∙◌, arith, inl, inr}
+use Rattle.std.proofs.Common.{◌≡◌, ℕ, suc, zero, ◌+◌, ◌-◌, ◌<◌, ◌≤◌, ◌||◌, ◌&&◌, not, List, [], ◌∷◌, ◌++◌, Bool, true, false, length, map, take, drop, set, get_or, nat_eq, nat_lt, slice_index, slice_index_or, replicate, ℤ, pos, negsuc, unsigned_abs, ◌^◌, to_z, of_z, w32, refl, sym, ap, subst, ◌∙◌, arith}
 use Rattle.std.proofs.lemmas.Bool.Decides.{nat_tests}
 use Rattle.std.proofs.lemmas.Int.{to_z-of_z}
 use mir.Val.{SFits}
-use Rattle.std.proofs.lemmas.List.{get_or-set_other, get_or-set_same, length-replicate, length-set, map_more, take_more}
-use Rattle.av1_coef.proofs.ScanSteps.{once_below, once_drop}
-use Rattle.av1_coef.proofs.Tests.{both, either, false_true, not_true, same}
+use Rattle.std.proofs.lemmas.List.{get_or-set_other, get_or-set_same, length-set, map_more, take_more}
+use Rattle.av1_coef.proofs.ScanSteps.{once_below}
+use Rattle.av1_coef.proofs.Tests.{both, false_true}
 use Rattle.av1_coef.specs.Scans.{each_once, is_in}
 use Rattle.av1_syntax.proofs.CoeffKnown.{in_take, not_before}
 use Rattle.av1_syntax.specs.Coefficients.{levels_at, value_at}

@@ -1,5 +1,5 @@
 -- What effects leave as it is, what they keep, and that going back to a mark hides them.
-use Rattle.std.proofs.Common.{◌≡◌, ◌⊎◌, inl, inr, nat_le, ℕ, ℤ, zero, suc, ◌+◌, ◌-◌, ◌*◌, ◌/◌, ◌%◌, ◌^◌, ◌<◌, ◌≤◌, List, [], ◌∷◌, Bool, true, false, Option, Some, None, IsTrue, length, get_or, nat_eq, nat_lt, min, if◌then◌else◌, refl, sym, ap, subst, ◌∙◌, arith, ◌&&◌}
+use Rattle.std.proofs.Common.{◌≡◌, ◌⊎◌, inl, inr, ℕ, ℤ, zero, suc, ◌+◌, ◌-◌, ◌*◌, ◌/◌, ◌%◌, ◌^◌, ◌<◌, ◌≤◌, List, [], ◌∷◌, Bool, true, false, Option, Some, length, get_or, nat_eq, nat_lt, min, if◌then◌else◌, refl, sym, ap, subst, ◌∙◌, arith, ◌&&◌}
 use Rattle.std.specs.Option.{ForSome}
 use Rattle.std.proofs.lemmas.Bool.Decides.{nat_tests}
 use Rattle.std.proofs.lemmas.List.{get_or-replicate}
@@ -11,7 +11,7 @@ use Rattle.av1_blocks.specs.Block.{is_inter}
 use Rattle.av1_blocks.specs.declared.checkpoint.BlockContextCheckpoint.{BlockContextCheckpoint}
 use Rattle.av1_blocks.specs.Edges.{HasEdges, filled_in, halvings, place_in, planes_coded, with_tx_sides}
 use Rattle.av1_blocks.specs.GoingBack.{IsWithin, gone_back}
-use Rattle.av1_blocks.specs.Grid.{Grid, block_at, covers, over}
+use Rattle.av1_blocks.specs.Grid.{Grid, block_at, covers}
 use Rattle.av1_blocks.specs.Places.{changed, filled, sb_column, within}
 use Rattle.av1_blocks.specs.Saved.{Saved}
 use Rattle.av1_blocks.specs.Sound.{IsSound as IsSoundBlock}
@@ -36,7 +36,7 @@ use Rattle.av1_geometry.specs.declared.block_size.BlockSize.TheVariants.{BLOCK_4
 use Rattle.av1_syntax.specs.TransformSizes.{block_of, entered_split}
 use Rattle.av1_step.specs.Effect.{Effect, Over, Parted, Unfilled, Transformed, SplitTransform, NewRow, CdefCoded, Become, ChromaMode, Listed, Picked, Filled, Referred, changed_by, changed_by_all}
 use Rattle.av1_step.specs.Given.{Given}
-use Rattle.av1_step.specs.Kept.{HasSides, IsBlock, IsEntered, IsFine, IsKept, Fits, AllFit, IsAlike, IsLike, LeavesAlike, IsAt, AllAt}
+use Rattle.av1_step.specs.Kept.{HasSides, IsBlock, IsEntered, IsFine, IsKept, Fits, AllFit, IsAlike, LeavesAlike, IsAt, AllAt}
 use Rattle.av1_step.specs.Tile.{Tile, CurrentBlock, grid_block, has_chroma_size, new_block, place_of_block, sampling, size_of_block, with_numbers}
 use Rattle.av1_step.proofs.Planes.{planes_kept}
 use Rattle.av1_step.proofs.Splitting.{split_blocks, split_long, sides_long, split_keeps, part_within}

@@ -1,5 +1,5 @@
 -- What the kinds of step for filters, segments and palettes bring.
-use Rattle.std.proofs.Common.{◌≡◌, ℕ, ◌+◌, ◌^◌, ◌<◌, ◌≤◌, ◌++◌, ◌&&◌, [], ◌∷◌, Bool, true, false, not, None, nat_lt, nat_le, refl, arith, inl}
+use Rattle.std.proofs.Common.{◌≡◌, ℕ, ◌+◌, ◌^◌, ◌<◌, ◌≤◌, ◌++◌, ◌&&◌, Bool, true, false, not, None, nat_lt, refl, arith, inl}
 use Rattle.std.specs.Option.{option_map_or}
 use Rattle.std.proofs.lemmas.Bool.Decides.{nat_tests}
 use Rattle.av1_cdf.specs.Distribution.{HasSymbols}

@@ -1,11 +1,9 @@
 -- Before the first step.
 use Rattle.std.proofs.Common.{◌≡◌, ℕ, ◌*◌, ◌<◌, List, [], length, get_or, replicate, refl, sym, ◌∙◌, ap, subst, arith}
 use Rattle.std.proofs.lemmas.List.{length-replicate, get_or-replicate}
-use Rattle.av1_blocks.specs.declared.block.Block.{Block}
 use Rattle.av1_blocks.specs.declared.block.TheConstants.Block.{DEFAULT}
 use Rattle.av1_cdf.specs.Context.{AreCdfs}
 use Rattle.av1_frame.specs.declared.frame.FrameInvariants.{FrameInvariants}
-use Rattle.av1_geometry.specs.declared.block_offset.BlockOffset.{BlockOffset}
 use Rattle.av1_model.proofs.Tokens.{whole_valid}
 use Rattle.av1_step.specs.Given.{Given, IsGiven, tile_count, tile_cols, tile_rows}
 use Rattle.av1_step.specs.Kept.{IsFine, IsKept}

@@ -1,5 +1,5 @@
 -- References that were coded as those of the one block at a place, and the states after steps of inter blocks.
-use Rattle.std.proofs.Common.{◌≡◌, ℕ, ◌+◌, ◌-◌, ◌*◌, ◌<◌, ◌≤◌, List, [], ◌∷◌, Bool, true, false, Option, Some, None, Result, if◌then◌else◌, codes, get_or, nat_lt, refl, sym, ap, subst, ◌∙◌, arith}
+use Rattle.std.proofs.Common.{◌≡◌, ℕ, ◌+◌, ◌-◌, ◌*◌, List, [], ◌∷◌, Bool, true, false, Some, None, Result, if◌then◌else◌, codes, get_or, nat_lt, refl, sym, ap, subst, ◌∙◌, arith}
 use Rattle.av1_blocks.specs.declared.block.Block.{Block}
 use Rattle.av1_blocks.specs.declared.block.TheConstants.Block.{DEFAULT}
 use Rattle.av1_blocks.specs.declared.block_context.BlockContext.{BlockContext}

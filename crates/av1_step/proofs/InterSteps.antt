@@ -1,10 +1,9 @@
 -- What the kinds of step bring that say whether a block is predicted from other frames, and from which.
-use Rattle.std.proofs.Common.{◌≡◌, ◌⊎◌, inl, inr, ℕ, zero, suc, ◌+◌, ◌-◌, ◌<◌, ◌≤◌, ◌==◌, ◌&&◌, ◌||◌, List, [], ◌∷◌, Bool, true, false, not, IsTrue, Option, None, Some, get_or, nat_le, nat_lt, if◌then◌else◌, refl, sym, ap, arith}
+use Rattle.std.proofs.Common.{◌≡◌, ◌⊎◌, inl, inr, ℕ, zero, suc, ◌+◌, ◌-◌, ◌<◌, ◌≤◌, ◌==◌, ◌&&◌, ◌||◌, [], ◌∷◌, Bool, true, false, not, IsTrue, None, Some, get_or, nat_le, nat_lt, if◌then◌else◌, refl, ap, arith}
 use Rattle.std.proofs.lemmas.Bool.Decides.{nat_tests}
 use Rattle.std.specs.Option.{ForSome}
 use Rattle.av1_blocks.specs.declared.block.Block.{Block}
 use Rattle.av1_blocks.specs.Grid.{Grid, block_at}
-use Rattle.av1_blocks.specs.Sound.{IsSound as IsSoundBlock}
 use Rattle.av1_frame.specs.declared.frame.FrameInvariants.{FrameInvariants}
 use Rattle.av1_geometry.specs.PredictionMode.{prediction_mode_number}
 use Rattle.av1_geometry.specs.RefType.{reference_number}
@@ -15,14 +14,14 @@ use Rattle.av1_geometry.specs.declared.block_size.BlockSize.TheVariants.{BLOCK_4
 use Rattle.av1_geometry.specs.declared.prediction_mode.PredictionMode.{PredictionMode}
 use Rattle.av1_geometry.specs.declared.prediction_mode.PredictionMode.TheVariants.{NEARESTMV, NEAREST_NEARESTMV}
 use Rattle.av1_geometry.specs.declared.ref_type.RefType.{RefType}
-use Rattle.av1_geometry.specs.declared.ref_type.RefType.TheVariants.{INTRA_FRAME, NONE_FRAME}
+use Rattle.av1_geometry.specs.declared.ref_type.RefType.TheVariants.{NONE_FRAME}
 use Rattle.av1_mvref.specs.References.{count_of, counts, times}
 use Rattle.av1_syntax.specs.RefFrames.{is_pair, may_be_pair, AreRefFrames}
 use Rattle.av1_syntax.proofs.InterReads.{is_inter_reads, ref_frames_reads}
 use Rattle.av1_step.specs.Effect.{changed_by}
-use Rattle.av1_step.specs.InterSteps.{are_references, counted, first_mode, first_refs, is_inter_kind, is_one, is_two, mode_of_refs, ref_frames_kind}
+use Rattle.av1_step.specs.InterSteps.{counted, first_mode, first_refs, is_inter_kind, is_one, is_two, mode_of_refs, ref_frames_kind}
 use Rattle.av1_step.specs.Kept.{AreCandidates, IsBlock, IsFine}
-use Rattle.av1_step.specs.Kind.{holds, rules_of, IsKind}
+use Rattle.av1_step.specs.Kind.{rules_of, IsKind}
 use Rattle.av1_step.specs.Tile.{Tile, CurrentBlock, grid_block, place_of_block, size_of_block}
 use Rattle.av1_step.proofs.Effects.{says_alike}
 use Rattle.av1_step.proofs.KindLaws.{kind_reads, none_is}

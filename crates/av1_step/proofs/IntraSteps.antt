@@ -1,9 +1,8 @@
 -- What the steps of intra blocks bring.
-use Rattle.std.proofs.Common.{◌≡◌, ℕ, ◌+◌, ◌-◌, ◌*◌, ◌<◌, ◌≤◌, ◌==◌, List, [], ◌∷◌, Bool, true, false, IsTrue, Option, Some, None, length, refl, sym, ap, subst, ◌∙◌, arith, nat_lt, is_none, inl, inr}
+use Rattle.std.proofs.Common.{◌≡◌, ℕ, ◌-◌, ◌<◌, List, [], ◌∷◌, true, Some, None, refl, ap, ◌∙◌, arith, nat_lt, inl, inr}
 use Rattle.std.proofs.lemmas.Bool.Decides.{nat_tests}
 use Rattle.av1_blocks.specs.declared.block_context.BlockContext.{BlockContext}
 use Rattle.av1_blocks.specs.Grid.{Grid, block_at, over}
-use Rattle.av1_cdf.specs.Distribution.{HasSymbols}
 use Rattle.av1_geometry.specs.Rules.{first_broken}
 use Rattle.av1_geometry.specs.declared.prediction_mode.PredictionMode.{PredictionMode}
 use Rattle.av1_geometry.specs.PredictionMode.{prediction_mode_number}
@@ -11,11 +10,11 @@ use Rattle.av1_syntax.specs.IntraModes.{HasIntraNeighbours, uv_modes}
 use Rattle.av1_syntax.proofs.Elements.{intra_mode_reads, intra_mode_kf_reads, uv_mode_reads}
 use Rattle.av1_step.specs.Effect.{changed_by_all}
 use Rattle.av1_step.specs.IntraSteps.{mode_at, is_intra, gets_mode, intra_mode_kf_kind, intra_mode_kind, uv_mode_kind}
-use Rattle.av1_step.specs.Kept.{HasSides, IsBlock, IsFine, IsKept}
-use Rattle.av1_step.specs.Kind.{holds, rules_of, IsKind}
+use Rattle.av1_step.specs.Kept.{IsBlock, IsFine, IsKept}
+use Rattle.av1_step.specs.Kind.{rules_of, IsKind}
 use Rattle.av1_step.specs.Tile.{Tile, CurrentBlock, place_of_block, size_of_block, with_numbers}
 use Rattle.av1_step.proofs.Effects.{place_there, says_alike, sound_within}
-use Rattle.av1_step.proofs.KindLaws.{kind_reads, none_is, asking_holds, answering_holds}
+use Rattle.av1_step.proofs.KindLaws.{kind_reads, none_is}
 use Rattle.av1_step.proofs.Places.{all_hold}
 
 pub is_less : (n m : ℕ) → nat_lt n m ≡ true → n < m

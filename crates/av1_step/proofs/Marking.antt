@@ -1,5 +1,5 @@
 -- What a mark of now has.
-use Rattle.std.proofs.Common.{◌≡◌, ℕ, ◌*◌, ◌/◌, ◌<◌, Bool, true, List, Option, refl, sym, ap, subst, ◌∙◌, arith}
+use Rattle.std.proofs.Common.{◌≡◌, ℕ, ◌*◌, ◌/◌, ◌<◌, true, List, Option, refl, sym, ap, subst, ◌∙◌, arith}
 use Rattle.av1_blocks.specs.declared.block_context.BlockContext.{BlockContext}
 use Rattle.av1_blocks.specs.declared.checkpoint.BlockContextCheckpoint.{BlockContextCheckpoint}
 use Rattle.av1_blocks.specs.Edges.{taken}
@@ -11,7 +11,6 @@ use Rattle.av1_cdf.specs.Log.{undone}
 use Rattle.av1_cdf.specs.declared.log.CDFContextLog.{CDFContextLog}
 use Rattle.av1_geometry.specs.declared.block_offset.BlockOffset.{BlockOffset}
 use Rattle.av1_geometry.specs.declared.block_offset.TileBlockOffset.{TileBlockOffset}
-use Rattle.av1_geometry.specs.declared.chroma_sampling.ChromaSampling.{ChromaSampling}
 use Rattle.av1_geometry.specs.declared.superblock_offset.SuperBlockOffset.{SuperBlockOffset}
 use Rattle.av1_mvref.specs.ExtraSearch.{Candidates}
 use Rattle.av1_step.specs.declared.trial.TrialMark.{TrialMark}

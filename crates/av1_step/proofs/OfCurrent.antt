@@ -1,5 +1,5 @@
 -- What holds of every kind of step of the current block.
-use Rattle.std.proofs.Common.{◌≡◌, List, [], true, Option, Some, None, is_some, option_map, refl, sym, ap, subst, ◌∙◌}
+use Rattle.std.proofs.Common.{◌≡◌, [], true, Option, Some, None, is_some, option_map, refl, sym, ap, subst, ◌∙◌}
 use Rattle.av1_geometry.specs.Rules.{first_broken}
 use Rattle.av1_step.specs.declared.step.TileStep.{TileStep}
 use Rattle.av1_step.specs.Effect.{changed_by_all}

@@ -1,5 +1,5 @@
 -- What the rules of a frame say of its tiles.
-use Rattle.std.proofs.Common.{◌≡◌, ℕ, zero, suc, sym, subst, ◌∙◌, ◌/◌, ◌%◌, ◌+◌, ◌++◌, ◌*◌, ◌<◌, ◌≤◌, List, [], ◌∷◌, Bool, true, false, Option, None, Some, refl, ap, arith, ◌^◌, nat_le, nat_lt}
+use Rattle.std.proofs.Common.{◌≡◌, ℕ, zero, suc, sym, subst, ◌∙◌, ◌/◌, ◌%◌, ◌+◌, ◌++◌, ◌*◌, ◌<◌, ◌≤◌, List, [], ◌∷◌, Bool, true, false, Option, None, Some, refl, ap, arith, ◌^◌, nat_le}
 use Rattle.std.proofs.lemmas.Grind.{div_ceil_times}
 use Rattle.std.proofs.lemmas.Nat.{mul-le}
 use Rattle.std.proofs.Math.Nat.{div-lt_iff_lt-mul, mod-lt, mul_comm}
@@ -7,7 +7,7 @@ use Rattle.std.specs.Prelude.{◌&&◌, if◌then◌else◌}
 use Rattle.std.specs.Int.{div_ceil}
 use Rattle.std.proofs.lemmas.Bool.Decides.{nat_tests}
 use Rattle.av1_frame.specs.FrameRules.{frame_rules, coding_rules}
-use Rattle.av1_frame.specs.HeaderRules.{blocks, sides_fit, header_rules}
+use Rattle.av1_frame.specs.HeaderRules.{sides_fit, header_rules}
 use Rattle.av1_frame.specs.TileRules.{tile_rules, tiling_of}
 use Rattle.av1_frame.specs.Tiling.{tiling}
 use Rattle.av1_frame.specs.declared.frame.FrameInvariants.{FrameInvariants}

@@ -1,5 +1,5 @@
 -- What restoration filters refer to stays in its ranges, and each plane has the frame's type.
-use Rattle.std.proofs.Common.{◌≡◌, ℕ, zero, suc, ◌<◌, ◌≤◌, List, [], ◌∷◌, Bool, length, get_or, set, nat_eq, refl, sym, ap, ◌∙◌, arith}
+use Rattle.std.proofs.Common.{◌≡◌, ℕ, zero, suc, ◌<◌, List, [], ◌∷◌, Bool, length, get_or, set, nat_eq, refl, sym, ap, ◌∙◌, arith}
 use Rattle.std.proofs.lemmas.List.{length-set}
 use Rattle.av1_frame.specs.declared.state.FrameState.{FrameState}
 use Rattle.av1_syntax.specs.Restoration.{plane_at, renewed, HasReferences, IsFilterOf}

@@ -1,10 +1,9 @@
 -- What the step that codes the filter of a unit of loop restoration brings.
-use Rattle.std.proofs.Common.{◌≡◌, ℕ, zero, suc, ◌^◌, ◌<◌, ◌≤◌, ◌||◌, ◌&&◌, ◌⊎◌, List, [], ◌∷◌, Bool, true, false, None, length, get_or, nat_eq, nat_lt, inl, inr, refl, sym, ap, arith, ℤ, pos, ◌≤ℤ◌}
+use Rattle.std.proofs.Common.{◌≡◌, ℕ, zero, suc, ◌<◌, ◌≤◌, ◌||◌, ◌⊎◌, List, [], ◌∷◌, Bool, true, false, None, get_or, nat_eq, nat_lt, inl, inr, refl, arith, ℤ, pos}
 use Rattle.std.specs.List.{list_all}
 use Rattle.std.specs.Prelude.{int_le}
 use Rattle.std.proofs.lemmas.Bool.Decides.{nat_tests, Decides-int_eq}
 use Rattle.std.proofs.lemmas.Int.{ints}
-use Rattle.av1_cdf.specs.Distribution.{HasSymbols}
 use Rattle.av1_frame.specs.FilterRules.{restoration_fits, type_fits}
 use Rattle.av1_frame.specs.FrameRules.{coding_rules}
 use Rattle.av1_frame.specs.Tests.{int_within}

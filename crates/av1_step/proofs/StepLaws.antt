@@ -1,28 +1,25 @@
 -- All kinds of step. What each brings is one line for each of the first lemmas; the others hold of every kind.
-use Rattle.std.proofs.Common.{inl, zero, suc, ◌≤◌, ◌&&◌, nat_lt, nat_le, ◌==◌, option_map, ◌≡◌, ℕ, ◌+◌, ◌-◌, ◌*◌, ◌/◌, ◌%◌, min, ◌<◌, ◌^◌, Bool, true, false, IsTrue, List, [], ◌∷◌, ◌++◌, Option, Some, None, is_some, is_none, length, refl, sym, ◌∙◌, ap, subst, arith, if◌then◌else◌}
+use Rattle.std.proofs.Common.{inl, zero, suc, ◌≤◌, nat_lt, ◌==◌, option_map, ◌≡◌, ℕ, ◌+◌, ◌-◌, ◌%◌, ◌<◌, ◌^◌, Bool, true, false, IsTrue, List, [], ◌∷◌, ◌++◌, Option, Some, None, is_none, length, refl, sym, ◌∙◌, ap, subst, arith, if◌then◌else◌}
 use Rattle.std.proofs.lemmas.Bool.Decides.{nat_tests}
-use Rattle.std.specs.Option.{ForSome, option_map_or}
-use Rattle.av1_blocks.specs.declared.block.Block.{Block as GridBlock}
+use Rattle.std.specs.Option.{option_map_or}
 use Rattle.av1_cdf.specs.Context.{AreCdfs}
 use Rattle.av1_cdf.specs.Distribution.{coded_by, learnt, HasSymbols}
 use Rattle.av1_cdf.proofs.Distributions.{keeps_cdfs}
 use Rattle.av1_geometry.specs.declared.block_offset.BlockOffset.{BlockOffset}
 use Rattle.av1_geometry.specs.declared.block_size.BlockSize.{BlockSize}
 use Rattle.av1_geometry.specs.declared.error.Rule.{Rule}
-use Rattle.av1_geometry.specs.declared.partition_type.PartitionType.{PartitionType}
-use Rattle.av1_geometry.specs.declared.prediction_mode.PredictionMode.{PredictionMode}
-use Rattle.av1_geometry.specs.BlockSize.{width_log2, height_log2, width_mi, height_mi}
+use Rattle.av1_geometry.specs.BlockSize.{width_log2, height_log2}
 use Rattle.av1_geometry.specs.BlockTables.{subsize_of}
-use Rattle.av1_geometry.specs.Rules.{Check, first_broken}
+use Rattle.av1_geometry.specs.Rules.{first_broken}
 use Rattle.av1_model.specs.Comes.{Standing, standing, stored_along, Writes, Begins}
-use Rattle.av1_model.specs.Element.{Reads, nothing}
+use Rattle.av1_model.specs.Element.{nothing}
 use Rattle.av1_model.specs.Paths.{context_along}
 use Rattle.av1_model.specs.Position.{Position, advance_all}
 use Rattle.av1_model.specs.Reading.{Fits}
 use Rattle.av1_model.specs.Syntax.{Leads}
 use Rattle.av1_model.proofs.ComesLaws.{stored_is, begins_front}
 use Rattle.av1_model.proofs.ElementLaws.{known_reads, fits_asked, nothing_reads, reads_as}
-use Rattle.av1_syntax.specs.Partition.{IsParted, has_cols, has_rows, is_allowed, partition_element}
+use Rattle.av1_syntax.specs.Partition.{IsParted, has_cols, has_rows, is_allowed}
 use Rattle.av1_syntax.proofs.Elements.{partition_reads, skip_reads}
 use Rattle.av1_step.specs.declared.error.StepFault.TheVariants.{TooLong, Broken}
 use Rattle.av1_step.specs.declared.step.TileStep.{TileStep}
@@ -30,18 +27,15 @@ use Rattle.av1_step.specs.declared.step.TileStep.TheVariants.{RowStart, Block, P
 use Rattle.av1_step.specs.Effect.{Effect, Over, Parted, Unfilled, changed_by_all}
 use Rattle.av1_step.specs.AngleSteps.{angle_delta_kind, cfl_alphas_kind}
 use Rattle.av1_step.specs.DeltaSteps.{segment_kind, delta_lf_kind}
-use Rattle.av1_step.specs.CoeffSteps.{chroma_coeffs_kind, luma_coeffs_kind}
 use Rattle.av1_step.specs.FilterSteps.{cdef_kind, filter_intra_kind, palette_kind}
-use Rattle.av1_step.specs.Given.{tile_cols, tile_rows}
 use Rattle.av1_step.specs.InterSteps.{is_inter_kind, ref_frames_kind}
 use Rattle.av1_step.specs.IntraSteps.{intra_mode_kf_kind, uv_mode_kind, intra_mode_kind}
 use Rattle.av1_step.specs.ModeSteps.{inter_mode_kind, compound_mode_kind, drl_kind}
-use Rattle.av1_step.specs.Kept.{IsBlock, IsFine, IsKept, AllFit, AllAt}
+use Rattle.av1_step.specs.Kept.{IsBlock, IsKept, AllFit, AllAt}
 use Rattle.av1_step.specs.Kind.{Kind, answers, holds, rules_of, of_none, of_current, IsKind}
-use Rattle.av1_step.specs.RestorationSteps.{lrf_kind}
 use Rattle.av1_step.specs.Script.{tile_after, tokens_of}
-use Rattle.av1_step.specs.Step.{is_aligned, is_coded_size, is_parted_size, is_split_on, parted, row_start_kind, block_kind, partition_kind, skip_kind, step_fault, most_bits, Question, OfRowStart, OfBlock, OfPartition, OfSkip, OfIntraModeKf, OfUvMode, OfIntraMode, Answer, question_of, answer_of, kind_of, rules, syntax_of, symbols_of, effects_of, entered, is_untried, OfCdef, OfFilterIntra, OfPalette, OfLrf, OfSegment, OfDeltaLf, OfAngleDelta, OfCflAlphas, OfTxNote, OfTxIntra, OfTxInter, OfIsInter, OfRefFrames, OfLumaCoeffs, OfChromaCoeffs, OfInterMode, OfCompoundMode, OfDrl, OfMvRefs, OfMv}
-use Rattle.av1_step.specs.Tile.{Tile, CurrentBlock, place_of_block, size_of_block, with_numbers, sampling, has_chroma_size, is_inside}
+use Rattle.av1_step.specs.Step.{is_split_on, row_start_kind, block_kind, partition_kind, skip_kind, step_fault, most_bits, Question, OfRowStart, OfBlock, OfPartition, OfSkip, OfIntraModeKf, OfUvMode, OfIntraMode, Answer, question_of, answer_of, kind_of, rules, syntax_of, symbols_of, effects_of, entered, is_untried, OfCdef, OfFilterIntra, OfPalette, OfLrf, OfSegment, OfDeltaLf, OfAngleDelta, OfCflAlphas, OfTxNote, OfTxIntra, OfTxInter, OfIsInter, OfRefFrames, OfLumaCoeffs, OfChromaCoeffs, OfInterMode, OfCompoundMode, OfDrl, OfMvRefs, OfMv}
+use Rattle.av1_step.specs.Tile.{Tile, CurrentBlock, place_of_block, size_of_block, with_numbers, sampling, has_chroma_size}
 use Rattle.av1_step.proofs.OfCurrent.{of_current_named, of_current_rules, of_current_places, current_bare}
 use Rattle.av1_step.proofs.Effects.{all_kept, all_same, all_still, numbers_kept, still_sound}
 use Rattle.av1_step.proofs.AngleSteps.{angle_delta_is_kind, cfl_alphas_is_kind}
@@ -53,7 +47,7 @@ use Rattle.av1_step.proofs.IntraSteps.{intra_mode_kf_is_kind, uv_mode_is_kind, i
 use Rattle.av1_step.proofs.ModeSteps.{inter_mode_is_kind, compound_mode_is_kind, drl_is_kind}
 use Rattle.av1_step.proofs.FilterSteps.{cdef_is_kind, filter_intra_is_kind, palette_is_kind}
 use Rattle.av1_step.proofs.RestorationSteps.{lrf_is_kind}
-use Rattle.av1_step.proofs.KindLaws.{kind_reads, none_is, asking_holds, answering_holds, leads_step, step_apart, steps_ask}
+use Rattle.av1_step.proofs.KindLaws.{kind_reads, none_is, asking_holds, leads_step, step_apart, steps_ask}
 use Rattle.av1_step.proofs.Places.{all_hold, both, is_at_most}
 use Rattle.av1_step.proofs.Ready.{is_paired}
 use Rattle.av1_step.proofs.TransformSteps.{tx_note_is_kind, tx_intra_is_kind, tx_inter_is_kind}

@@ -1,5 +1,5 @@
 -- The states after steps of the sizes of transforms.
-use Rattle.std.proofs.Common.{◌≡◌, ℕ, ◌*◌, ◌/◌, ◌^◌, ◌≤◌, List, [], Bool, false, ◌&&◌, Option, Some, None, Result, Ok, Err, refl, sym, ap, subst, ◌∙◌, arith}
+use Rattle.std.proofs.Common.{◌≡◌, ℕ, ◌*◌, ◌/◌, ◌^◌, ◌≤◌, List, Bool, false, ◌&&◌, Some, Result, Ok, Err, refl, ap, subst, ◌∙◌, arith}
 use Rattle.std.specs.Prelude.{IsErr}
 use Rattle.av1_blocks.specs.declared.block.Block.{Block}
 use Rattle.av1_blocks.specs.declared.block_context.BlockContext.{BlockContext}
@@ -10,23 +10,18 @@ use Rattle.av1_blocks.specs.Grid.{Grid, over}
 use Rattle.av1_blocks.specs.Places.{sb_column}
 use Rattle.av1_cdf.specs.Context.{AreCdfs}
 use Rattle.av1_ec.specs.declared.known.Known.{Ghosts}
-use Rattle.av1_ec.proofs.MovesLaws.{moves_none}
 use Rattle.av1_geometry.specs.BlockSize.{width_log2, height_log2, width_mi}
 use Rattle.av1_geometry.specs.BlockTables.{max_tx_size}
-use Rattle.av1_geometry.specs.Rules.{first_broken}
 use Rattle.av1_geometry.specs.TxSize.{tx_width_log2, tx_height_log2}
 use Rattle.av1_geometry.specs.declared.block_offset.BlockOffset.{BlockOffset}
 use Rattle.av1_geometry.specs.declared.block_size.BlockSize.{BlockSize}
 use Rattle.av1_geometry.specs.declared.tx_size.TxSize.{TxSize}
-use Rattle.av1_model.specs.Comes.{standing}
-use Rattle.av1_model.specs.Syntax.{Leads}
 use Rattle.av1_syntax.specs.TransformSizes.{entered_split, IsPlaced}
 use Rattle.av1_step.specs.declared.tile.TileState.{TileState}
 use Rattle.av1_step.specs.declared.step.TileStep.TheVariants.{TxNote, TxIntra, TxInter}
 use Rattle.av1_step.specs.Kept.{IsBlock}
-use Rattle.av1_step.specs.Kind.{rules_of, of_current}
 use Rattle.av1_step.specs.State.{tile_of, log_of}
-use Rattle.av1_step.specs.Step.{OfTxNote, entered, kind_of}
+use Rattle.av1_step.specs.Step.{entered}
 use Rattle.av1_step.specs.Tile.{Tile, CurrentBlock, place_of_block, size_of_block, with_numbers}
 use Rattle.av1_step.specs.TransformSteps.{standing_at, note, tx_note_kind, tx_intra_kind, inter_tx_size, tx_inter_kind}
 use Rattle.av1_step.specs.Writing.{Writes}
@@ -34,7 +29,7 @@ use Rattle.av1_step.proofs.Arms.{silent_wrote}
 use Rattle.av1_step.proofs.Effects.{side_within}
 use Rattle.av1_step.proofs.OfCurrent.{current_entered, of_current_named}
 use Rattle.av1_step.proofs.Splitting.{whole_wide, whole_high}
-use Rattle.av1_step.proofs.StepLaws.{IsAllowed, entered_same}
+use Rattle.av1_step.proofs.StepLaws.{IsAllowed}
 
 -- the error of a refusal
 pub err_of : {U E : Type 0} (r : Result U E) → IsErr r → (e : E) × (r ≡ Err e)

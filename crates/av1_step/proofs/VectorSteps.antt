@@ -1,5 +1,5 @@
 -- What the steps of the vectors of inter blocks bring.
-use Rattle.std.proofs.Common.{◌≡◌, ℕ, zero, suc, ◌+◌, ◌*◌, ◌%◌, ◌<◌, ◌≤◌, ◌<ℤ◌, ℤ, pos, negsuc, ◌==◌, List, [], ◌∷◌, Bool, true, false, IsTrue, Option, Some, None, length, get_or, set, not, int_lt, nat_le, nat_lt, refl, sym, ap, subst, ◌∙◌, arith, inl, inr}
+use Rattle.std.proofs.Common.{◌≡◌, ℕ, zero, suc, ◌+◌, ◌*◌, ◌<◌, ◌≤◌, ◌<ℤ◌, ℤ, ◌==◌, List, [], ◌∷◌, Bool, true, false, IsTrue, Some, None, length, get_or, set, not, int_lt, nat_le, nat_lt, refl, sym, subst, arith, inl, inr}
 use Rattle.std.proofs.lemmas.Bool.{cases_lt}
 use Rattle.std.proofs.lemmas.Bool.Decides.{nat_tests}
 use Rattle.std.proofs.lemmas.Int.{ints}
@@ -7,7 +7,7 @@ use Rattle.std.proofs.lemmas.List.{get_or_past}
 use Rattle.av1_blocks.specs.declared.block.Block.{Block}
 use Rattle.av1_blocks.specs.declared.block.TheConstants.Block.{DEFAULT}
 use Rattle.av1_blocks.specs.Block.{is_inter, has_second_ref}
-use Rattle.av1_blocks.specs.Grid.{Grid, block_at}
+use Rattle.av1_blocks.specs.Grid.{block_at}
 use Rattle.av1_blocks.specs.Sound.{IsSound}
 use Rattle.av1_cdf.specs.Distribution.{HasSymbols}
 use Rattle.av1_geometry.specs.MotionVector.{IsValid}
@@ -19,11 +19,11 @@ use Rattle.av1_geometry.specs.declared.motion_vector.MvSubpelPrecision.{MvSubpel
 use Rattle.av1_model.proofs.ElementLaws.{known_reads}
 use Rattle.av1_mvref.specs.Candidates.{no_vector, ref_of}
 use Rattle.av1_mvref.specs.Conditions.{IsReference}
-use Rattle.av1_mvref.specs.ExtraSearch.{Candidates, candidates}
-use Rattle.av1_syntax.specs.Vectors.{IsDifference, difference, unit_of}
+use Rattle.av1_mvref.specs.ExtraSearch.{Candidates}
+use Rattle.av1_syntax.specs.Vectors.{IsDifference, difference}
 use Rattle.av1_syntax.proofs.VectorReads.{vector_reads}
 use Rattle.av1_step.specs.IntraSteps.{is_intra, mode_at}
-use Rattle.av1_step.specs.Kept.{AreCandidates, IsBlock, IsFine, IsKept}
+use Rattle.av1_step.specs.Kept.{AreCandidates, IsBlock, IsKept}
 use Rattle.av1_step.specs.Kind.{rules_of, IsKind}
 use Rattle.av1_step.specs.Listed.{is_compound}
 use Rattle.av1_step.specs.Tile.{Tile, CurrentBlock, grid_block, place_of_block, size_of_block}

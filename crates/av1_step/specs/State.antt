@@ -1,13 +1,8 @@
 -- The tile that a state of the program stands for.
-use Rattle.std.specs.Prelude.{ℕ, true, Option}
 use Rattle.av1_cdf.specs.declared.log.CDFContextLog.{CDFContextLog}
-use Rattle.av1_geometry.specs.declared.prediction_mode.PredictionMode.{PredictionMode}
-use Rattle.av1_syntax.specs.declared.context_writer.ContextWriter.{ContextWriter}
 use Rattle.av1_step.specs.declared.tile.TileState.{TileState}
-use Rattle.av1_step.specs.declared.unit.Unit.{Unit}
-use Rattle.av1_step.specs.Given.{given_of}
 use Rattle.av1_step.specs.Place.{tile_at}
-use Rattle.av1_step.specs.Tile.{Tile, CurrentBlock}
+use Rattle.av1_step.specs.Tile.{Tile}
 
 abbrev pub tile_of : TileState → Tile
 tile_of s = tile_at s.unit.now s.number s.cw s.rs s.current s.uv s.cands s.pick

@@ -15,7 +15,7 @@ use Rattle.av1_geometry.specs.declared.tx_type.TxType.{TxType}
 use Rattle.av1_geometry.specs.BlockSize.{width_log2, height_log2, width_mi, height_mi}
 use Rattle.av1_geometry.specs.BlockTables.{subsize_of}
 use Rattle.av1_geometry.specs.PartitionType.{partition_number}
-use Rattle.av1_model.specs.Element.{Element, known}
+use Rattle.av1_model.specs.Element.{known}
 use Rattle.av1_model.specs.Syntax.{Syntax}
 use Rattle.av1_syntax.specs.Flags.{skip_element}
 use Rattle.av1_syntax.specs.declared.restoration.RestorationFilter.{RestorationFilter}

@@ -1,5 +1,5 @@
 // What a trial that has begun keeps.
-ghost use Rattle.std.specs.Prelude.{◌≡◌, ◌≤◌, ◌/◌, ◌*◌, ℕ, List, true, IfOk};
+ghost use Rattle.std.specs.Prelude.{◌≡◌, ◌≤◌, true, IfOk};
 ghost use Rattle.av1_cdf.specs.Log.{IsReached as HasSaves, IsWithin, stored, undone};
 ghost use Rattle.av1_cdf.specs.Context.{AreCdfs};
 ghost use Rattle.av1_step.specs.Mark.{IsMarkOf, WentBack};

@@ -1,4 +1,4 @@
-use Rattle.std.proofs.Common.{◌≡◌, ◌<◌, ℕ, ℤ, List, length, take, slice_index_or, pos, subst, ◌∙◌, arith}
+use Rattle.std.proofs.Common.{◌≡◌, ℤ, List, length, take, slice_index_or, pos, subst, ◌∙◌, arith}
 use Rattle.std.proofs.lemmas.List.{take_all}
 use Rattle.av1_coef.proofs.ScanSteps.{once_below}
 use Rattle.av1_step.proofs.CoeffPlaces.{ArePlaced, level_back, placed_more, placed_none}

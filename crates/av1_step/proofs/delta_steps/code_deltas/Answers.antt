@@ -1,7 +1,7 @@
-use Rattle.std.proofs.Common.{◌≡◌, List, ℤ, sym, ap, subst, ◌∙◌}
+use Rattle.std.proofs.Common.{◌≡◌, sym, ap, subst}
 use Rattle.av1_blocks.specs.declared.block.Block.{Block}
-use Rattle.av1_blocks.specs.Grid.{Grid, block_at}
-use Rattle.av1_syntax.specs.Deltas.{delta_count, deltas_element, AreDeltas}
+use Rattle.av1_blocks.specs.Grid.{block_at}
+use Rattle.av1_syntax.specs.Deltas.{delta_count, AreDeltas}
 use Rattle.av1_step.proofs.DeltaSteps.{as_before, deltas_here, deltas_wrote}
 use Rattle.av1_step.proofs.delta_steps.code_deltas.Goals as goal
 

@@ -1,9 +1,7 @@
-use Rattle.std.proofs.Common.{◌≡◌, ℕ, true, false, refl, sym, ap, subst, ◌∙◌, arith, rules}
+use Rattle.std.proofs.Common.{◌≡◌, false, ap, rules}
 use Rattle.av1_blocks.specs.declared.block.Block.{Block}
-use Rattle.av1_blocks.specs.declared.block_context.BlockContext.{BlockContext}
-use Rattle.av1_blocks.specs.Grid.{Grid, block_at}
+use Rattle.av1_blocks.specs.Grid.{block_at}
 use Rattle.av1_step.proofs.DeltaSteps.{as_before, segment_as, segment_here, segment_none}
-use Rattle.av1_step.proofs.OneBlock.{block_here}
 use Rattle.av1_step.proofs.delta_steps.code_segment.Goals as goal
 
 pub write_segmentation-coded-requires-clause-segment : goal.write_segmentation-coded-requires-clause-segment

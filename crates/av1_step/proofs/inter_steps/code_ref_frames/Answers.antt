@@ -1,6 +1,6 @@
-use Rattle.std.proofs.Common.{◌≡◌, refl, sym, ap, subst, ◌∙◌}
+use Rattle.std.proofs.Common.{ap, ◌∙◌}
 use Rattle.av1_blocks.specs.declared.block.Block.{Block}
-use Rattle.av1_blocks.specs.Grid.{Grid, block_at}
+use Rattle.av1_blocks.specs.Grid.{Grid}
 use Rattle.av1_mvref.specs.References.{counts}
 use Rattle.av1_step.proofs.DeltaSteps.{as_before}
 use Rattle.av1_step.proofs.InterArms.{has_entered, ready_there, counts_there, refs_there_are, coded_there}

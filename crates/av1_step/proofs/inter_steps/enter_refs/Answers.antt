@@ -1,4 +1,4 @@
-use Rattle.std.proofs.Common.{◌≡◌, [], ◌∷◌, sym, ap, subst, ◌∙◌}
+use Rattle.std.proofs.Common.{[], ◌∷◌, sym, ap, subst, ◌∙◌}
 use Rattle.av1_blocks.specs.declared.block.Block.{Block}
 use Rattle.av1_blocks.specs.Grid.{Grid, IsInside, over}
 use Rattle.av1_step.proofs.InterArms.{over_twice}

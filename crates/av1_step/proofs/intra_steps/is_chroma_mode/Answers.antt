@@ -1,4 +1,4 @@
-use Rattle.std.proofs.Common.{◌≡◌, Bool, true, false, nat_lt, ap, sym, ◌∙◌, if◌then◌else◌}
+use Rattle.std.proofs.Common.{◌≡◌, true, false, nat_lt, ap, sym, ◌∙◌, if◌then◌else◌}
 use Rattle.av1_geometry.specs.PredictionMode.{prediction_mode_number}
 use Rattle.av1_syntax.specs.IntraModes.{cfl_allowed}
 use Rattle.av1_syntax.proofs.Values.{allowed_is, not_allowed}

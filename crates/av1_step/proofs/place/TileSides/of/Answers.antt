@@ -1,9 +1,7 @@
-use Rattle.std.proofs.Common.{◌≡◌, ℕ, ◌+◌, ◌*◌, ◌/◌, ◌%◌, ◌^◌, ◌<◌, ◌≤◌, arith, ap}
+use Rattle.std.proofs.Common.{◌*◌, ◌/◌, ◌%◌, ◌^◌, ◌≤◌, arith}
 use Rattle.std.proofs.lemmas.Nat.{mul-le}
 use Rattle.std.proofs.Math.Nat.{mod-le, div-le_self}
 use Rattle.av1_frame.specs.HeaderRules.{blocks}
-use Rattle.av1_frame.specs.declared.tiling.TilingInfo.{TilingInfo}
-use Rattle.av1_step.specs.Given.{IsCut}
 use Rattle.av1_step.proofs.Places.{few_tiles, left_inside, top_inside}
 use Rattle.av1_step.proofs.place.TileSides.of.Goals as goal
 

@@ -1,12 +1,9 @@
-use Rattle.std.proofs.Common.{◌≡◌, ◌≤◌, Option, Some, IsTrue, sym, subst, rules}
-use Rattle.av1_blocks.specs.declared.block.Block.{Block}
-use Rattle.av1_mvref.specs.Conditions.{IsReference}
+use Rattle.std.proofs.Common.{◌≡◌, Some, IsTrue, sym, subst, rules}
 use Rattle.av1_mvref.specs.ExtraSearch.{Candidates}
 use Rattle.av1_step.specs.declared.step.TileStep.TheVariants.{MvRefs}
 use Rattle.av1_step.specs.Kept.{IsKept}
 use Rattle.av1_step.specs.State.{tile_of}
 use Rattle.av1_step.specs.Step.{entered}
-use Rattle.av1_step.specs.Tile.{grid_block}
 use Rattle.av1_step.specs.VectorSteps.{find, mv_refs_kind}
 use Rattle.av1_step.proofs.OfCurrent.{current_allowed}
 use Rattle.av1_step.proofs.Ready.{ready}

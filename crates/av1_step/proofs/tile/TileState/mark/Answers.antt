@@ -1,15 +1,7 @@
-use Rattle.std.proofs.Common.{◌≡◌, ℕ, ◌*◌, ◌/◌, List, refl, sym, ap, subst, ◌∙◌, arith}
-use Rattle.av1_blocks.specs.declared.block_context.BlockContext.{BlockContext}
-use Rattle.av1_blocks.specs.declared.checkpoint.BlockContextCheckpoint.{BlockContextCheckpoint}
-use Rattle.av1_blocks.specs.GoingBack.{gone_back}
-use Rattle.av1_blocks.specs.Saved.{Saved, saved_of, IsSavedOf}
-use Rattle.av1_blocks.proofs.GivenBack.{gives_back}
-use Rattle.av1_geometry.specs.declared.block_offset.BlockOffset.{BlockOffset}
-use Rattle.av1_geometry.specs.declared.superblock_offset.SuperBlockOffset.{SuperBlockOffset}
-use Rattle.av1_step.specs.Mark.{IsOfTile}
+use Rattle.std.proofs.Common.{ℕ, ◌/◌, refl, ap, ◌∙◌, arith}
+use Rattle.av1_blocks.specs.Saved.{saved_of}
 use Rattle.av1_step.specs.declared.trial.TrialMark.{TrialMark}
 use Rattle.av1_step.specs.State.{tile_of, log_of}
-use Rattle.av1_step.specs.Tile.{Tile, sampling}
 use Rattle.av1_step.proofs.Marking.{marks_tile, marked_back, inside_is}
 use Rattle.av1_step.proofs.tile.TileState.mark.Goals as goal
 

@@ -1,7 +1,6 @@
-use Rattle.std.proofs.Common.{Option, option_map, sym, ◌∙◌, ap, refl, ◌≡◌, Some, None}
-use Rattle.av1_geometry.specs.declared.block_offset.BlockOffset.{BlockOffset}
+use Rattle.std.proofs.Common.{sym, ◌∙◌, ap, refl}
 use Rattle.av1_step.specs.declared.step.TileStep.{TileStep}
-use Rattle.av1_step.specs.declared.step.TileStep.TheVariants.{Skip, Segment, IntraModeKf, UvMode, IntraMode, Cdef, DeltaLf, AngleDelta, CflAlphas, FilterIntra, Palette, TxNote, TxIntra, TxInter, IsInter, RefFrames, InterMode, CompoundMode, Drl, Mv}
+use Rattle.av1_step.specs.declared.step.TileStep.TheVariants.{Skip, Segment, IntraModeKf, UvMode, IntraMode, Cdef, DeltaLf, AngleDelta, CflAlphas, FilterIntra, Palette, TxIntra, TxInter, IsInter, RefFrames, InterMode, CompoundMode, Drl, Mv}
 use Rattle.av1_step.specs.AngleSteps.{angle_delta_kind, cfl_alphas_kind}
 use Rattle.av1_step.specs.DeltaSteps.{segment_kind, delta_lf_kind}
 use Rattle.av1_step.specs.FilterSteps.{cdef_kind, filter_intra_kind, palette_kind}
@@ -10,7 +9,6 @@ use Rattle.av1_step.specs.IntraSteps.{intra_mode_kf_kind, uv_mode_kind, intra_mo
 use Rattle.av1_step.specs.State.{tile_of}
 use Rattle.av1_step.specs.ModeSteps.{inter_mode_kind, compound_mode_kind, drl_kind}
 use Rattle.av1_step.specs.Step.{kind_of, question_of, skip_kind}
-use Rattle.av1_step.specs.Tile.{Tile, place_of_block}
 use Rattle.av1_step.specs.TransformSteps.{note, tx_note_kind, tx_intra_kind, tx_inter_kind}
 use Rattle.av1_step.specs.VectorSteps.{find, mv_refs_kind, mv_kind}
 use Rattle.av1_step.proofs.CoeffWriting.{place_is}

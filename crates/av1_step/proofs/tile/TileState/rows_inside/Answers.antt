@@ -1,4 +1,4 @@
-use Rattle.std.proofs.Common.{◌≡◌, ◌-◌, ◌*◌, ◌/◌, ◌^◌, min, ap, ◌∙◌, arith}
+use Rattle.std.proofs.Common.{◌-◌, ◌*◌, ◌/◌, ◌^◌, min, ap, ◌∙◌, arith}
 use Rattle.av1_geometry.specs.TxSize.{tx_height_log2}
 use Rattle.av1_step.specs.State.{tile_of}
 use Rattle.av1_step.proofs.CoeffFrame.{rows_same, left_by}

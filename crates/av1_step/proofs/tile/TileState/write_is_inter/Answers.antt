@@ -1,11 +1,10 @@
-use Rattle.std.proofs.Common.{◌≡◌, [], ◌∷◌, Option, Some, None, Ok, Err, refl, sym, ap, subst, ◌∙◌, arith, rules}
+use Rattle.std.proofs.Common.{◌≡◌, Some, refl, sym, subst, arith, rules}
 use Rattle.av1_blocks.specs.declared.block_context.BlockContext.{BlockContext}
-use Rattle.av1_blocks.specs.Grid.{Grid, IsInside}
+use Rattle.av1_blocks.specs.Grid.{IsInside}
 use Rattle.av1_step.specs.declared.step.TileStep.TheVariants.{IsInter}
 use Rattle.av1_step.specs.InterSteps.{is_inter_kind}
 use Rattle.av1_step.specs.Kept.{IsKept}
 use Rattle.av1_step.specs.State.{tile_of}
-use Rattle.av1_step.specs.Tile.{Tile, with_numbers}
 use Rattle.av1_step.proofs.Arms.{writes_whole, writes_front}
 use Rattle.av1_step.proofs.Effects.{numbers_kept}
 use Rattle.av1_step.proofs.FilterArms.{only_numbers}

@@ -1,6 +1,4 @@
-use Rattle.std.proofs.Common.{◌≡◌, Option, Some, Ok, Err, true, refl, sym, ap, subst, ◌∙◌, arith, rules}
-use Rattle.av1_blocks.specs.declared.block_context.BlockContext.{BlockContext}
-use Rattle.av1_blocks.specs.Grid.{IsInside}
+use Rattle.std.proofs.Common.{◌≡◌, Some, refl, sym, subst, arith, rules}
 use Rattle.av1_geometry.specs.declared.motion_vector.MotionVector.{MotionVector}
 use Rattle.av1_geometry.specs.declared.motion_vector.MvSubpelPrecision.{MvSubpelPrecision}
 use Rattle.av1_model.specs.Comes.{Writes as WritesAll, Begins}
@@ -9,14 +7,13 @@ use Rattle.av1_syntax.specs.Vectors.{difference, vector_element, IsDifference}
 use Rattle.av1_step.specs.declared.step.TileStep.TheVariants.{Mv}
 use Rattle.av1_step.specs.Kept.{IsKept}
 use Rattle.av1_step.specs.State.{tile_of}
-use Rattle.av1_step.specs.Step.{entered}
 use Rattle.av1_step.specs.VectorSteps.{mv_kind, precision_of, reference_vector}
 use Rattle.av1_step.proofs.Arms.{writes_whole, writes_front}
 use Rattle.av1_step.proofs.Effects.{numbers_kept}
 use Rattle.av1_step.proofs.FilterArms.{only_numbers}
-use Rattle.av1_step.proofs.OfCurrent.{current_allowed, current_there, current_tree}
+use Rattle.av1_step.proofs.OfCurrent.{current_allowed, current_tree}
 use Rattle.av1_step.proofs.StepLaws.{kept_after}
-use Rattle.av1_step.proofs.VectorArms.{coded_list, mv_entered}
+use Rattle.av1_step.proofs.VectorArms.{mv_entered}
 use Rattle.av1_step.proofs.VectorSteps.{mv_allowed}
 use Rattle.av1_step.proofs.Switches.{switched}
 use Rattle.av1_step.proofs.tile.TileState.write_mv.Goals as goal
