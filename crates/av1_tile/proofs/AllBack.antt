@@ -1,11 +1,11 @@
 -- Going back to a mark hides that the tile went back to a later one of the same superblock.
-use Rattle.std.proofs.Common.{◌≡◌, ℕ, ◌+◌, ◌-◌, ◌*◌, ◌/◌, List, [], Bool, true, false, nat_lt, get_or, if◌then◌else◌, refl, sym, ap, subst, ◌∙◌, arith}
+use Rattle.std.proofs.Common.{◌≡◌, ℕ, ◌+◌, ◌-◌, ◌/◌, List, [], Bool, true, false, nat_lt, get_or, if◌then◌else◌, refl, ap, ◌∙◌}
 use Rattle.av1_blocks.specs.declared.block.Block.{Block}
 use Rattle.av1_blocks.specs.declared.block_context.BlockContext.{BlockContext}
 use Rattle.av1_blocks.specs.declared.checkpoint.BlockContextCheckpoint.{BlockContextCheckpoint}
 use Rattle.av1_blocks.specs.Edges.{place_in}
 use Rattle.av1_blocks.specs.GoingBack.{gone_back}
-use Rattle.av1_blocks.specs.Grid.{Grid, covers}
+use Rattle.av1_blocks.specs.Grid.{covers}
 use Rattle.av1_blocks.specs.Places.{changed, put, within, sb_column}
 use Rattle.av1_blocks.specs.Saved.{Saved, saved_at}
 use Rattle.av1_blocks.proofs.Places.{hidden}

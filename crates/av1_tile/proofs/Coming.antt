@@ -1,8 +1,7 @@
 -- How far the loop over a script has come.
 use Rattle.std.proofs.Common.{◌≡◌, ℕ, ◌+◌, ◌<◌, ◌≤◌, Bool, true, false, List, [], ◌∷◌, ◌++◌, Some, None, length, take, drop, get_or, refl, sym, ◌∙◌, ap, subst, arith, if◌then◌else◌}
-use Rattle.std.proofs.lemmas.List.{take_more, drop_more, drop_all, length-append}
+use Rattle.std.proofs.lemmas.List.{take_more, drop_more, drop_all}
 use Rattle.std.proofs.Math.ListN.{length-take}
-use Rattle.av1_model.specs.Eighths.{eighths}
 use Rattle.av1_model.specs.Position.{Position}
 use Rattle.av1_ec.specs.declared.known.Known.{Ghosts}
 use Rattle.av1_step.specs.declared.trial.TrialMark.{TrialMark}

@@ -1,5 +1,5 @@
 -- Marks and costs of trials: what moves them, and what leaves them as they are.
-use Rattle.std.proofs.Common.{◌≡◌, ◌⊎◌, inl, inr, ℕ, ◌+◌, ◌-◌, ◌/◌, ◌<◌, ◌≤◌, ◌&&◌, ◌==◌, IsTrue, List, [], ◌∷◌, ◌++◌, length, set, take, get_or, refl, sym, ◌∙◌, ap, subst, arith, append_assoc}
+use Rattle.std.proofs.Common.{◌≡◌, ◌⊎◌, inl, inr, ◌+◌, ◌-◌, ◌/◌, ◌<◌, ◌≤◌, IsTrue, List, [], ◌∷◌, ◌++◌, length, set, take, get_or, refl, sym, ◌∙◌, ap, subst, arith, append_assoc}
 use Rattle.std.proofs.lemmas.Bool.Decides.{nat_tests}
 use Rattle.std.proofs.lemmas.List.{take_more, take_all}
 use Rattle.av1_cdf.specs.Context.{AreCdfs}
@@ -17,7 +17,7 @@ use Rattle.av1_step.specs.Kept.{IsKept}
 use Rattle.av1_step.specs.State.{tile_of, log_of}
 use Rattle.av1_step.specs.Tile.{Tile}
 use Rattle.av1_tile.specs.Trials.{Trial, with_costs, same_superblock}
-use Rattle.av1_tile.specs.Coder.{HasCoded, all_costs, begun_of, unknown_cost, MarkIs, MarksAre}
+use Rattle.av1_tile.specs.Coder.{HasCoded, all_costs, begun_of, unknown_cost, MarksAre}
 use Rattle.av1_step.specs.Mark.{back_to, IsOfTile}
 use Rattle.av1_tile.specs.Marks.{IsBefore, IsBeforeAll, CanGoBack, AreMarks, StandsStill, AllStandStill}
 

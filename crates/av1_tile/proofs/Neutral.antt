@@ -1,6 +1,5 @@
 -- A trial that is given up leaves no trace.
-use Rattle.std.proofs.Common.{◌≡◌, ◌⊎◌, inl, inr, ℕ, suc, ◌+◌, ◌==◌, List, [], ◌∷◌, ◌++◌, Bool, true, false, Option, Result, Ok, length, refl, sym, ◌∙◌, ap, subst, arith, append_assoc}
-use Rattle.std.specs.Prelude.{OnOk}
+use Rattle.std.proofs.Common.{◌≡◌, inl, inr, ℕ, suc, ◌+◌, ◌==◌, List, [], ◌∷◌, ◌++◌, true, false, Option, length, sym, ◌∙◌, ap, subst, arith, append_assoc}
 use Rattle.std.proofs.lemmas.List.{length_push}
 use Rattle.av1_ec.specs.declared.known.Known.{Ghosts}
 use Rattle.av1_geometry.specs.declared.block_offset.TileBlockOffset.{TileBlockOffset}

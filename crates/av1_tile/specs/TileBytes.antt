@@ -7,7 +7,7 @@ use Rattle.av1_tile.specs.declared.report.TileReport.{TileReport}
 use Rattle.av1_tile.specs.declared.report.TrialCost.{TrialCost}
 use Rattle.av1_step.specs.declared.unit.Item.{Item}
 use Rattle.av1_step.specs.declared.unit.Unit.{Unit}
-use Rattle.av1_step.specs.Given.{Given, given_of}
+use Rattle.av1_step.specs.Given.{Given}
 use Rattle.av1_step.specs.Script.{begin, read_steps}
 use Rattle.av1_step.specs.Step.{question_of}
 use Rattle.av1_step.specs.Tile.{Tile}

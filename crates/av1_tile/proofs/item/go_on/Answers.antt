@@ -1,5 +1,4 @@
-use Rattle.std.proofs.Common.{◌≡◌, ◌≤◌, Err, rules}
-use Rattle.av1_ec.specs.Rate.{tell_frac_at}
+use Rattle.std.proofs.Common.{◌≡◌, Err, rules}
 use Rattle.av1_step.specs.State.{tile_of}
 use Rattle.av1_tile.proofs.Items.{written_told, front_told, step_still, refused_still, settled_marks, step_done, step_refused}
 use Rattle.av1_step.proofs.StepLaws.{faultless}

@@ -1,4 +1,4 @@
-use Rattle.std.proofs.Common.{◌≡◌, ◌⊎◌, Err, inr, rules}
+use Rattle.std.proofs.Common.{◌≡◌, Err, inr, rules}
 use Rattle.av1_tile.proofs.Standing.{right_item}
 use Rattle.av1_tile.proofs.coding.TileCoder.code_item.Goals as goal
 

@@ -1,4 +1,4 @@
-use Rattle.std.proofs.Common.{◌≡◌, Bool, true, false, not, ◌&&◌, sym, ◌∙◌, ap}
+use Rattle.std.proofs.Common.{true, false, not, ◌&&◌, sym, ◌∙◌, ap}
 use Rattle.av1_step.specs.Step.{is_untried}
 use Rattle.av1_tile.specs.Trials.{no_trial}
 use Rattle.av1_tile.proofs.coding.TileCoder.is_barred.Goals as goal

@@ -1,4 +1,4 @@
-use Rattle.std.proofs.Common.{Option, sym, ◌∙◌, ap}
+use Rattle.std.proofs.Common.{sym, ◌∙◌, ap}
 use Rattle.av1_step.specs.declared.unit.Item.{Item}
 use Rattle.av1_tile.specs.Trials.{strays, misplaced}
 use Rattle.av1_tile.proofs.coding.TileCoder.is_misplaced.Goals as goal

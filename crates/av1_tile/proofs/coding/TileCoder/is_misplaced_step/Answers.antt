@@ -1,4 +1,4 @@
-use Rattle.std.proofs.Common.{◌≡◌, Bool, true, false, ◌||◌, sym, ◌∙◌, ap}
+use Rattle.std.proofs.Common.{true, false, ◌||◌, sym, ◌∙◌, ap}
 use Rattle.av1_step.specs.declared.unit.Item.TheVariants.{Step}
 use Rattle.av1_tile.specs.Trials.{strays, place_of}
 use Rattle.av1_tile.proofs.coding.TileCoder.is_misplaced_step.Goals as goal

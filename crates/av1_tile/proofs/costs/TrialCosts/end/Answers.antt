@@ -1,4 +1,4 @@
-use Rattle.std.proofs.Common.{◌≡◌, ◌<◌, List, ℕ, [], ◌++◌, ◌∷◌, length, refl, sym, ◌∙◌, ap, set, get_or, rules}
+use Rattle.std.proofs.Common.{◌≡◌, ◌<◌, ℕ, [], length, sym, ◌∙◌, ap, set, get_or, rules}
 use Rattle.std.proofs.lemmas.List.{get_or_default}
 use Rattle.av1_tile.specs.declared.report.TrialCost.{TrialCost}
 use Rattle.av1_tile.proofs.Marks.{last_one, none_last}
