@@ -1,7 +1,5 @@
 -- What is asked for where a unit is read, and where one is made.
-use Rattle.std.proofs.Common.{◌≡◌, ◌^◌, ◌<◌, ◌≤◌, ◌⊎◌, inl, inr, Bool, true, false, List, ℕ, Option, Some, None, length, nat_lt, subst, sym, refl, ap, ◌∙◌, arith}
-use Rattle.std.specs.Bool.{MatchBool}
-use Rattle.std.specs.Prelude.{string_bytes}
+use Rattle.std.proofs.Common.{◌≡◌, ◌^◌, ◌<◌, ◌≤◌, ◌⊎◌, inl, inr, List, ℕ, Option, Some, None, length, subst, sym, refl, ◌∙◌, arith}
 use Rattle.std.proofs.lemmas.Bool.{lt-ltb, le-ltb}
 use Rattle.av1_bits.specs.Outside.{Rose, Still}
 use Rattle.av1_tile.specs.declared.error.UnitError.{UnitError}

@@ -1,4 +1,4 @@
-use Rattle.std.proofs.Common.{◌≡◌, Option, Some, inl, subst}
+use Rattle.std.proofs.Common.{◌≡◌, Option, inl, subst}
 use Rattle.av1_program.specs.Run.{Explains, IsAnswer, IsAnswerTo}
 use Rattle.av1_program.specs.Shape.{made}
 use Rattle.av1_program.specs.declared.status.Status.{Status}
