@@ -1,11 +1,10 @@
 -- Levels that are put into coefficients one by one, in the order of a scan.
-use Rattle.std.proofs.Common.{◌≡◌, ◌≢◌, ℕ, zero, suc, ◌+◌, ◌<◌, ◌≤◌, List, [], ◌∷◌, Bool, true, false, ◌||◌, nat_eq, nat_lt, length, map, replicate, take, drop, set, slice_index, refl, sym, ap, subst, ◌∙◌, arith, inl, inr, ℤ, pos, negsuc, unsigned_abs, ◌^◌, w32, to_z, of_z}
+use Rattle.std.proofs.Common.{◌≡◌, ℕ, zero, suc, ◌+◌, ◌<◌, ◌≤◌, List, [], ◌∷◌, Bool, true, false, ◌||◌, nat_eq, length, replicate, take, drop, set, slice_index, refl, sym, ap, subst, ◌∙◌, arith, inl, inr, ℤ, pos, negsuc, unsigned_abs, ◌^◌, w32, to_z, of_z}
 use mir.Val.{SFits}
 use Rattle.std.proofs.lemmas.Int.{to_z-of_z}
-use Rattle.std.specs.Prelude.{slice_index_or}
-use Rattle.std.proofs.lemmas.Bool.{cases_lt, cases_eq}
+use Rattle.std.proofs.lemmas.Bool.{cases_lt}
 use Rattle.std.proofs.lemmas.Bool.Decides.{nat_tests}
-use Rattle.std.proofs.lemmas.List.{drop_more, length-map, length-set, length-take-le, get_or-map, get_or-take, get_or-set_same, get_or-set_other, ext_get_or}
+use Rattle.std.proofs.lemmas.List.{drop_more, length-map, length-take-le, get_or-map, get_or-take, get_or-set_same, get_or-set_other, ext_get_or}
 use Rattle.av1_coef.specs.Contexts.{coded_area}
 use Rattle.av1_coef.specs.Scans.{is_in, each_once, all_there, IsScan}
 use Rattle.av1_coef.proofs.Causal.{scan_keeps, scan_inside}

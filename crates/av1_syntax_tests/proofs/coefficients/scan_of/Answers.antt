@@ -1,4 +1,4 @@
-use Rattle.std.proofs.Common.{◌≡◌, List, ℕ, sym, ap, subst, ◌∙◌}
+use Rattle.std.proofs.Common.{List, ℕ, sym, ap, subst, ◌∙◌}
 use Rattle.av1_coef.specs.Scans.{IsScan, scan_of}
 use Rattle.av1_geometry.specs.BlockTables.{max_tx_size}
 use Rattle.av1_geometry.specs.TxTables.{class_of}
