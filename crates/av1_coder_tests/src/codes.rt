@@ -10,7 +10,7 @@ use std::test::Fail;
 const CDF: [u16; 4] = [7296, 3819, 1716, 0];
 
 // No test writes more than 2^17 bits.
-pub(crate) fn few_bits<W: Writer>(w: &W) -> Result<(), OutOfMemory>
+fn few_bits<W: Writer>(w: &W) -> Result<(), OutOfMemory>
     ensures { OnOk result ((W.position w.now).shift ≤ 2 ^ 17) }
 {
     if w.tell() > 1 << 17 {
@@ -19,19 +19,20 @@ pub(crate) fn few_bits<W: Writer>(w: &W) -> Result<(), OutOfMemory>
     Ok(())
 }
 
-fn symbol<W: Writer>(w: &mut W, s: u32) -> Result<(), OutOfMemory>
-    requires { s < 4 }
-{
+fn symbol<W: Writer>(w: &mut W, s: u32) -> Result<(), Fail> {
+    if s > 3 {
+        return Err("no symbol of four".into());
+    }
     few_bits(w)?;
-    w.symbol(s, &CDF)
+    Ok(w.symbol(s, &CDF)?)
 }
 
-fn bool<W: Writer>(w: &mut W, val: bool, f: u16) -> Result<(), OutOfMemory>
-    requires some { 0 < f }
-    requires not_all { f < 32768 }
-{
+fn bool<W: Writer>(w: &mut W, val: bool, f: u16) -> Result<(), Fail> {
+    if f == 0 || f > 32767 {
+        return Err("no odds of a bool".into());
+    }
     few_bits(w)?;
-    w.bool(val, f)
+    Ok(w.bool(val, f)?)
 }
 
 fn literal<W: Writer>(w: &mut W, bits: u8, s: u32) -> Result<(), OutOfMemory>
@@ -103,13 +104,18 @@ fn signed_subexp<W: Writer>(
 
 #[test]
 fn bools_are_read_back(rt: HostRuntime) -> Result<(), Fail> {
+    const BOOLS: [(u16, bool); 6] = [
+        (1, false),
+        (2, true),
+        (3, false),
+        (1, true),
+        (2, true),
+        (3, false),
+    ];
     let mut w = WriterEncoder::new(rt.alloc());
-    bool(&mut w, false, 1)?;
-    bool(&mut w, true, 2)?;
-    bool(&mut w, false, 3)?;
-    bool(&mut w, true, 1)?;
-    bool(&mut w, true, 2)?;
-    bool(&mut w, false, 3)?;
+    for (f, val) in BOOLS {
+        bool(&mut w, val, f)?;
+    }
     assert_eq!(rt; (w.tell(), w.tell_frac()), (43, 337));
     let bytes = w.done()?;
     assert_eq!(rt;
@@ -117,14 +123,7 @@ fn bools_are_read_back(rt: HostRuntime) -> Result<(), Fail> {
         [0xff, 0xf7, 0xff, 0xdf, 0xff, 0xa0].as_slice()
     );
     let mut r = SymbolReader::new(&bytes);
-    for (f, val) in [
-        (1, false),
-        (2, true),
-        (3, false),
-        (1, true),
-        (2, true),
-        (3, false),
-    ] {
+    for (f, val) in BOOLS {
         assert_eq!(rt; r.bool(f), val);
     }
     Ok(())
@@ -132,17 +131,16 @@ fn bools_are_read_back(rt: HostRuntime) -> Result<(), Fail> {
 
 #[test]
 fn symbols_are_read_back(rt: HostRuntime) -> Result<(), Fail> {
+    const SYMBOLS: [u32; 9] = [0, 0, 0, 1, 1, 1, 2, 2, 2];
     let mut w = WriterEncoder::new(rt.alloc());
-    for s in 0..3 {
-        symbol(&mut w, s)?;
-        symbol(&mut w, s)?;
+    for s in SYMBOLS {
         symbol(&mut w, s)?;
     }
     assert_eq!(rt; (w.tell(), w.tell_frac()), (24, 189));
     let bytes = w.done()?;
     assert_eq!(rt; bytes.as_slice(), [0x68, 0xf0, 0xc3].as_slice());
     let mut r = SymbolReader::new(&bytes);
-    for s in [0, 0, 0, 1, 1, 1, 2, 2, 2] {
+    for s in SYMBOLS {
         assert_eq!(rt; r.symbol(&CDF), s);
     }
     Ok(())
@@ -150,30 +148,31 @@ fn symbols_are_read_back(rt: HostRuntime) -> Result<(), Fail> {
 
 #[test]
 fn symbols_and_bools_are_read_back(rt: HostRuntime) -> Result<(), Fail> {
+    const PAIRS: [(u32, bool, u16); 5] = [
+        (0, true, 2),
+        (0, true, 2),
+        (0, true, 2),
+        (1, true, 1),
+        (1, false, 2),
+    ];
+    const SYMBOLS: [u32; 4] = [1, 2, 2, 2];
     let mut w = WriterEncoder::new(rt.alloc());
-    for _ in 0..3 {
-        symbol(&mut w, 0)?;
-        bool(&mut w, true, 2)?;
+    for (s, val, f) in PAIRS {
+        symbol(&mut w, s)?;
+        bool(&mut w, val, f)?;
     }
-    symbol(&mut w, 1)?;
-    bool(&mut w, true, 1)?;
-    symbol(&mut w, 1)?;
-    bool(&mut w, false, 2)?;
-    symbol(&mut w, 1)?;
-    symbol(&mut w, 2)?;
-    symbol(&mut w, 2)?;
-    symbol(&mut w, 2)?;
+    for s in SYMBOLS {
+        symbol(&mut w, s)?;
+    }
     assert_eq!(rt; (w.tell(), w.tell_frac()), (79, 627));
     let bytes = w.done()?;
     let want = [0xc6, 0xe7, 0x1b, 0x9c, 0x6e, 0x78, 0x9b, 0xfb, 0xe3, 0x42];
     assert_eq!(rt; bytes.as_slice(), want.as_slice());
     let mut r = SymbolReader::new(&bytes);
-    for _ in 0..3 {
-        assert_eq!(rt; (r.symbol(&CDF), r.bool(2)), (0, true));
+    for (s, val, f) in PAIRS {
+        assert_eq!(rt; (r.symbol(&CDF), r.bool(f)), (s, val));
     }
-    assert_eq!(rt; (r.symbol(&CDF), r.bool(1)), (1, true));
-    assert_eq!(rt; (r.symbol(&CDF), r.bool(2)), (1, false));
-    for s in [1, 2, 2, 2] {
+    for s in SYMBOLS {
         assert_eq!(rt; r.symbol(&CDF), s);
     }
     Ok(())
@@ -202,11 +201,7 @@ fn codes_are_read_back(rt: HostRuntime) -> Result<(), Fail> {
 }
 
 // A symbol of four, a bool and its odds, by a number at random.
-fn drawn(x: u32) -> (u32, bool, u16)
-    ensures symbol { result.0 < 4 }
-    ensures some { 0 < result.2 }
-    ensures not_all { result.2 < 32768 }
-{
+fn drawn(x: u32) -> (u32, bool, u16) {
     ((x >> 8) % 4, x >> 10 & 1 == 1, 1 + (x >> 16) as u16 % 32767)
 }
 

@@ -6,11 +6,15 @@
 //! - `tests`: each row through the public calls
 #![tactic(auto)]
 
-pub mod frames;
+#[cfg(test)]
+mod frames;
 #[cfg(test)]
 mod rows;
-pub mod sequences;
-pub mod states;
+#[cfg(test)]
+mod sequences;
+#[cfg(test)]
+mod states;
 #[cfg(test)]
 mod tests;
-pub mod words;
+#[cfg(test)]
+mod words;

@@ -6,8 +6,10 @@
 //! - `tests`: each row through the public calls, and worked values of single calls
 #![tactic(auto)]
 
-pub mod headers;
-pub mod numbers;
+#[cfg(test)]
+mod headers;
+#[cfg(test)]
+mod numbers;
 #[cfg(test)]
 mod rows;
 #[cfg(test)]

@@ -7,14 +7,23 @@
 //! - `tests`: each row through `read_unit`
 #![tactic(auto)]
 
-pub mod frames;
-pub mod item_rows;
-pub mod items;
-pub mod path_rows;
-pub mod sequences;
-pub mod states;
+#[cfg(test)]
+mod frames;
+#[cfg(test)]
+mod item_rows;
+#[cfg(test)]
+mod items;
+#[cfg(test)]
+mod path_rows;
+#[cfg(test)]
+mod sequences;
+#[cfg(test)]
+mod states;
 #[cfg(test)]
 mod tests;
-pub mod told;
-pub mod unit_rows;
-pub mod units;
+#[cfg(test)]
+mod told;
+#[cfg(test)]
+mod unit_rows;
+#[cfg(test)]
+mod units;

@@ -7,7 +7,8 @@
 
 #[cfg(test)]
 mod items;
-pub mod reader;
+#[cfg(test)]
+mod reader;
 #[cfg(test)]
 mod rows;
 #[cfg(test)]

@@ -14,13 +14,23 @@
 
 #[cfg(test)]
 mod answers;
-pub mod coefficients;
-pub mod every_kind;
-pub mod examples;
-pub mod inter_blocks;
-pub mod inter_kinds;
-pub mod kinds;
-pub mod made;
-pub mod rows;
-pub mod traps;
-pub mod vector_kinds;
+#[cfg(test)]
+mod coefficients;
+#[cfg(test)]
+mod every_kind;
+#[cfg(test)]
+mod examples;
+#[cfg(test)]
+mod inter_blocks;
+#[cfg(test)]
+mod inter_kinds;
+#[cfg(test)]
+mod kinds;
+#[cfg(test)]
+mod made;
+#[cfg(test)]
+mod rows;
+#[cfg(test)]
+mod traps;
+#[cfg(test)]
+mod vector_kinds;

@@ -2,7 +2,7 @@
 ghost use Rattle.std.specs.Prelude.{◌<◌, ◌≡◌, OnOk};
 ghost use Rattle.av1_ec.specs.Checkpoint.{KeepsCheckpoints};
 
-use crate::codes::few_bits;
+use crate::bits::few_bits;
 use av1_ec::{StorageBackend, Writer, WriterBase, WriterEncoder, cdf_to_pdf, update_cdf};
 use av1_geometry::OutOfMemory;
 use std::alloc::Global;

@@ -2,7 +2,7 @@
 ghost use Rattle.std.specs.Prelude.{◌<◌};
 ghost use Rattle.av1_ec.specs.Checkpoint.{KeepsCheckpoints};
 
-use crate::codes::few_bits;
+use crate::bits::few_bits;
 use av1_ec::{
     StorageBackend, Writer, WriterCounter, WriterEncoder, WriterRecorder, law_of_recorders,
 };
@@ -49,26 +49,39 @@ fn a_replayed_symbol_is_the_encoders(rt: HostRuntime) -> Result<(), Fail> {
     Ok(())
 }
 
+// What a writer tells after both.
+fn told<W: Writer>(w: &mut W) -> Result<(u32, u32), OutOfMemory> {
+    code_after_trial(w)?;
+    Ok((w.tell(), w.tell_frac()))
+}
+
 #[test]
-fn all_writers_tell_the_same(rt: HostRuntime) -> Result<(), Fail> {
+fn a_counter_tells_the_same(rt: HostRuntime) -> Result<(), Fail> {
     let mut counter = WriterCounter::new();
     counter.ready(1000)?;
-    let mut recorder = WriterRecorder::new(rt.alloc());
-    let mut encoder = WriterEncoder::new(rt.alloc());
-    code_after_trial(&mut counter)?;
-    code_after_trial(&mut recorder)?;
-    code_after_trial(&mut encoder)?;
-    assert_eq!(rt; (counter.tell(), counter.tell_frac()), (14, 106));
-    assert_eq!(rt; (recorder.tell(), recorder.tell_frac()), (14, 106));
-    assert_eq!(rt; (encoder.tell(), encoder.tell_frac()), (14, 106));
+    assert_eq!(rt; told(&mut counter)?, (14, 106));
     assert_eq!(rt; counter.stream_bits(), 13);
+    Ok(())
+}
+
+#[test]
+fn a_recorder_tells_the_same_and_is_replayed(rt: HostRuntime) -> Result<(), Fail> {
+    let mut recorder = WriterRecorder::new(rt.alloc());
+    assert_eq!(rt; told(&mut recorder)?, (14, 106));
     assert_eq!(rt; recorder.stream_bits(), 13);
-    assert_eq!(rt; encoder.stream_bits(), 8);
-    assert_eq!(rt; encoder.done()?.as_slice(), [0xc5, 0xa4].as_slice());
     let mut dest = WriterEncoder::new(rt.alloc());
     law_of_recorders(&recorder);
     recorder.replay_into(&mut dest)?;
     assert_eq!(rt; recorder.tell_frac(), 8);
     assert_eq!(rt; dest.done()?.as_slice(), [0xc5, 0xa4].as_slice());
+    Ok(())
+}
+
+#[test]
+fn an_encoder_tells_the_same(rt: HostRuntime) -> Result<(), Fail> {
+    let mut encoder = WriterEncoder::new(rt.alloc());
+    assert_eq!(rt; told(&mut encoder)?, (14, 106));
+    assert_eq!(rt; encoder.stream_bits(), 8);
+    assert_eq!(rt; encoder.done()?.as_slice(), [0xc5, 0xa4].as_slice());
     Ok(())
 }

@@ -4,7 +4,7 @@ ghost use Rattle.av1_cdf.specs.Context.{AreCdfs};
 ghost use Rattle.av1_cdf.specs.Log.{KeepsUndone};
 ghost use Rattle.av1_ec.specs.Checkpoint.{KeepsCheckpoints};
 
-use crate::codes::few_bits;
+use crate::bits::few_bits;
 use av1_cdf::{CDFContext, CDFContextLog, CDFOffset, law_of_starting};
 use av1_ec::{Writer, WriterEncoder};
 use av1_geometry::OutOfMemory;

@@ -1,5 +1,5 @@
 use Rattle.std.proofs.Common.{◌∙◌}
-use Rattle.av1_coder_tests.proofs.log.learn_in_trials.Goals as goal
+use Rattle.av1_cdf_tests.proofs.log.learn_in_trials.Goals as goal
 
 pub rollback-requires-2 : goal.rollback-requires-2
 rollback-requires-2 c =

@@ -4,7 +4,7 @@ use Rattle.av1_cdf.specs.Slots.{slot_of}
 use Rattle.av1_cdf.proofs.Cells.{slot_within}
 use Rattle.av1_cdf.proofs.Undoing.{keeps_from}
 use Rattle.av1_model.specs.Cdf.{IsCdf, adapt}
-use Rattle.av1_coder_tests.proofs.log.learn.Goals as goal
+use Rattle.av1_cdf_tests.proofs.log.learn.Goals as goal
 
 pub update_cdf-requires-clause-cdf : goal.update_cdf-requires-clause-cdf
 update_cdf-requires-clause-cdf c =
