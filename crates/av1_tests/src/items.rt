@@ -1,6 +1,6 @@
 // Items that are taken one by one, each where it can come.
-ghost use Rattle.std.specs.Prelude.{◌≡◌, IsTrue, IfOk};
-ghost use Rattle.av1_tile.specs.Items.{Stage, TakesOne};
+ghost use Rattle.std.specs.Prelude.{◌≡◌, true, IsTrue, IfOk};
+ghost use Rattle.av1_tile.specs.Items.{Stage, TakesOne, TakesAll, ends_its_own};
 ghost use Rattle.av1_tile.specs.Marks.{AreMarks};
 ghost use Rattle.av1_step.specs.State.{tile_of};
 
@@ -41,49 +41,50 @@ fn take<W: Writer>(
     Ok(true)
 }
 
-// Three trials, one in the other, each with a step, are given up. Whether all of their items came; then all 5528 numbers of the
+// Takes items one after another, as long as they can come. Whether all came.
+fn take_all<W: Writer>(
+    alloc: Global,
+    state: &mut TileState,
+    w: &mut W,
+    marks: &mut Vec<TrialMark>,
+    items: &[Item],
+) -> Result<bool, OutOfMemory>
+    requires marks { AreMarks W.Known w.old state.old marks.old.items }
+    ensures marks { AreMarks W.Known w.new state.new marks.new.items }
+    ensures took { let from : Stage W = record { writer = w.old; tile = state.old; marks = marks.old.items } in
+        let to : Stage W = record { writer = w.new; tile = state.new; marks = marks.new.items } in
+        IfOk result (λ came. IsTrue came → TakesAll W.Known from to items.now) }
+{
+    for item in items {
+        if !take(alloc, state, w, marks, item)? {
+            return Ok(false);
+        }
+    }
+    Ok(true)
+}
+
+// A trial of items that end the trials that they begin is given up. Whether all of its items came; then all 5528 numbers of the
 // distributions, and all else of the tile, are as before.
 fn try_in_vain<W: Writer>(
     alloc: Global,
     state: &mut TileState,
     w: &mut W,
     place: TileBlockOffset,
-    steps: (TileStep, TileStep, TileStep),
+    items: &[Item],
 ) -> Result<bool, OutOfMemory>
+    requires own { ends_its_own 0 items.now ≡ true }
     ensures { IfOk result (λ came. IsTrue came → (tile_of state.new ≡ tile_of state.old) × (W.position w.new ≡ W.position w.old)) }
 {
     law_of_trials::<W>();
     let mut marks = Vec::new(alloc);
-    let begin = Item::Begin(place);
-    let (outer, middle, inner) = steps;
-    if !take(alloc, state, w, &mut marks, &begin)? {
+    if !take(alloc, state, w, &mut marks, &Item::Begin(place))? {
         return Ok(false);
     }
-    if !take(alloc, state, w, &mut marks, &Item::Step(outer))? {
+    if !take_all(alloc, state, w, &mut marks, items)? {
         return Ok(false);
     }
-    if !take(alloc, state, w, &mut marks, &begin)? {
-        return Ok(false);
-    }
-    if !take(alloc, state, w, &mut marks, &Item::Step(middle))? {
-        return Ok(false);
-    }
-    if !take(alloc, state, w, &mut marks, &begin)? {
-        return Ok(false);
-    }
-    if !take(alloc, state, w, &mut marks, &Item::Step(inner))? {
-        return Ok(false);
-    }
-    if !take(alloc, state, w, &mut marks, &Item::Abandon)? {
-        return Ok(false);
-    }
-    if !take(alloc, state, w, &mut marks, &Item::Abandon)? {
-        return Ok(false);
-    }
-    if !take(alloc, state, w, &mut marks, &Item::Abandon)? {
-        return Ok(false);
-    }
-    Ok(true)
+    let came = take(alloc, state, w, &mut marks, &Item::Abandon)?;
+    Ok(came)
 }
 
 // Takes all items, and gives the eighths of a bit of each trial, in the order of their ends. There is no answer where one can't come.
@@ -188,7 +189,17 @@ fn three_trials_leave_no_trace(rt: HostRuntime) -> Result<(), Fail> {
         answer: PredictionMode::SMOOTH_PRED,
     };
     let skip = TileStep::Skip { answer: true };
-    let came = try_in_vain(alloc, &mut state, &mut w, place, (block, mode, skip))?;
+    // two trials, one in the other, in the one that is tried
+    let items = [
+        Item::Step(block),
+        Item::Begin(place),
+        Item::Step(mode),
+        Item::Begin(place),
+        Item::Step(skip),
+        Item::Abandon,
+        Item::Abandon,
+    ];
+    let came = try_in_vain(alloc, &mut state, &mut w, place, &items)?;
     assert!(rt; came);
     assert_eq!(rt; w.tell(), 1);
     assert_eq!(rt; state.current.is_none(), true);

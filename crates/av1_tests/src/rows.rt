@@ -10,9 +10,8 @@ use av1_ec::{Writer, WriterCounter, WriterEncoder};
 use av1_geometry::{BlockOffset, BlockSize, ChromaSampling, OutOfMemory, Rule, TileBlockOffset};
 use av1_unit::{
     ContentLight, FrameInvariants, FrameState, Item, Metadata, Place, Report, Sequence, StepFault,
-    TileReport, TileScript, TileState, TileStep, TrialCost, Unit, UnitError, Via, check_frame,
-    check_sequence, check_step, count_tile, law_of_steps, law_of_tile_counts, unit_bytes,
-    write_unit,
+    TileReport, TileScript, TileState, TileStep, Unit, UnitError, Via, check_frame, check_sequence,
+    check_step, count_tile, law_of_steps, law_of_tile_counts, unit_bytes, write_unit,
 };
 use av1_uses::cost_of_skip;
 use std::alloc::{AllocError, Global};
