@@ -2,7 +2,7 @@
 ghost use Rattle.std.specs.Prelude.{◌≡◌, ◌≤◌, true};
 ghost use Rattle.av1_syntax.specs.Restoration.{plane_at, starting, IsFilterOf, IsCounted};
 
-use crate::rows::{ends, fresh};
+use crate::fresh::{ends, fresh};
 use av1_ec::WriterEncoder;
 use av1_geometry::{RESTORE_SGRPROJ, RESTORE_SWITCHABLE};
 use av1_syntax::{RestorationFilter, RestorationPlane, TileRestorationState, law_of_restoration};

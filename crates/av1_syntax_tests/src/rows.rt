@@ -1,46 +1,9 @@
 // Single write calls on a fresh encoder, where all symbols are equally likely.
-ghost use Rattle.std.specs.Prelude.{◌≡◌, ◌*◌, ◌^◌, ◌≤◌, IfOk};
-ghost use Rattle.av1_cdf.specs.Context.{AreCdfs};
-
-use av1_blocks::{BlockContext, FrameBlocks, TileBlocksMut};
-use av1_cdf::{CDFContext, law_of_starting};
-use av1_ec::{Writer, WriterBase, WriterEncoder};
-use av1_geometry::{
-    BlockOffset, BlockSize, CFLParams, CFLSign, ChromaSampling, OutOfMemory, PartitionType,
-    PredictionMode, TileBlockOffset,
-};
+use crate::fresh::{CORNER, ends, fresh};
+use av1_ec::{Writer, WriterEncoder};
+use av1_geometry::{BlockSize, CFLParams, CFLSign, ChromaSampling, PartitionType, PredictionMode};
 use av1_syntax::ContextWriter;
-use std::alloc::Global;
-use std::process::Abort;
 use std::test::Fail;
-
-pub(crate) const CORNER: TileBlockOffset = TileBlockOffset(BlockOffset { x: 0, y: 0 });
-
-// A tile of so many columns and rows.
-pub(crate) fn fresh(alloc: Global, cols: usize, rows: usize) -> Result<ContextWriter, OutOfMemory>
-    requires { cols * rows ≤ 2 ^ 22 }
-    ensures cdfs { IfOk result (λ cw. AreCdfs cw.fc) }
-    ensures cols { IfOk result (λ cw. cw.bc.blocks.cols ≡ cols) }
-    ensures rows { IfOk result (λ cw. cw.bc.blocks.rows ≡ rows) }
-{
-    law_of_starting();
-    let frame = FrameBlocks::new(alloc, cols, rows)?;
-    let bc = BlockContext::new(TileBlocksMut::new(frame, 0, 0, cols, rows));
-    Ok(ContextWriter::new(alloc, CDFContext::uniform(), bc))
-}
-
-// The bits that an encoder tells, and its bytes.
-pub(crate) fn ends(
-    rt: &impl Abort,
-    w: WriterBase<WriterEncoder>,
-    bits: u32,
-    bytes: &[u8],
-) -> Result<(), Fail> {
-    assert_eq!(rt; w.tell(), bits);
-    let written = w.done()?;
-    assert_eq!(rt; written.as_slice(), bytes);
-    Ok(())
-}
 
 #[test]
 fn a_skip_flag(rt: HostRuntime) -> Result<(), Fail> {

@@ -4,7 +4,7 @@ use Rattle.av1_geometry.specs.BlockTables.{max_tx_size}
 use Rattle.av1_geometry.specs.TxTables.{class_of}
 use Rattle.av1_geometry.specs.declared.tx_size.TxSize.{TxSize}
 use Rattle.av1_geometry.specs.declared.tx_type.TxClass.{TxClass}
-use Rattle.av1_syntax_tests.proofs.coefficients.scan_of.Goals as goal
+use Rattle.av1_transform_tests.proofs.coefficients.scan_of.Goals as goal
 
 pub returns : goal.returns
 returns c =

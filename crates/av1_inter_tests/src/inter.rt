@@ -4,9 +4,9 @@ ghost use Rattle.std.specs.Prelude.{◌≤◌};
 ghost use Rattle.av1_geometry.specs.MotionVector.{IsValid};
 ghost use Rattle.av1_syntax.specs.Vectors.{difference, IsDifference};
 
-use crate::rows::{CORNER, ends, fresh};
 use av1_ec::{Writer, WriterEncoder};
 use av1_geometry::{MotionVector, MvSubpelPrecision, PredictionMode};
+use av1_syntax_tests::fresh::{CORNER, ends, fresh};
 use std::alloc::Global;
 use std::process::Abort;
 use std::test::Fail;

@@ -7,13 +7,13 @@ ghost use Rattle.av1_geometry.specs.BlockTables.{max_tx_size};
 ghost use Rattle.av1_geometry.specs.TxTables.{class_of};
 
 use crate::levels::{are_levels, has_type, put_levels};
-use crate::rows::fresh;
 use av1_coef::{Scan, Scans, diagonal, law_of_coded_sizes, law_of_scans};
 use av1_ec::{Writer, WriterEncoder};
 use av1_geometry::{
     BlockOffset, BlockSize, PredictionMode, TileBlockOffset, TxType, av1_get_coded_tx_size,
 };
 use av1_syntax::ContextWriter;
+use av1_syntax_tests::fresh::fresh;
 use std::alloc::Global;
 use std::test::Fail;
 

@@ -4,8 +4,8 @@ use Rattle.std.proofs.lemmas.List.{length-set}
 use Rattle.av1_coef.specs.Contexts.{coded_area}
 use Rattle.av1_coef.proofs.Causal.{scan_inside}
 use Rattle.av1_syntax.proofs.CoeffKnown.{scan_long}
-use Rattle.av1_syntax_tests.proofs.Putting.{ArePut, put_none, put_more, levels_put, put_all, level_back}
-use Rattle.av1_syntax_tests.proofs.levels.put_levels.Goals as goal
+use Rattle.av1_transform_tests.proofs.Putting.{ArePut, put_none, put_more, levels_put, put_all, level_back}
+use Rattle.av1_transform_tests.proofs.levels.put_levels.Goals as goal
 
 pub loop-i-init : goal.loop-i-init
 loop-i-init c = record { long = λ i. length c.args.coeffs.now; put = put_none c.args.tx_size c.args.tx_class c.args.scan.now c.requires.order c.args.levels.now c.args.coeffs.now c.requires.zeros }

@@ -1,6 +1,6 @@
 use Rattle.std.proofs.Common.{◌≡◌, length}
-use Rattle.av1_syntax_tests.proofs.Putting.{ArePut}
-use Rattle.av1_syntax_tests.proofs.levels.put_levels.Given as goal
+use Rattle.av1_transform_tests.proofs.Putting.{ArePut}
+use Rattle.av1_transform_tests.proofs.levels.put_levels.Given as goal
 
 abbrev pub invariant-loop-i : goal.invariant-loop-i
 invariant-loop-i l = record {

@@ -1,8 +1,8 @@
 // Types and sizes of transforms, where all symbols are equally likely at first. Where rav1e codes that a block is inter, the
 // rows code that it is skipped, by the same numbers.
-use crate::rows::{CORNER, ends, fresh};
 use av1_ec::WriterEncoder;
 use av1_geometry::{BlockOffset, BlockSize, PredictionMode, TileBlockOffset, TxSize, TxType};
+use av1_syntax_tests::fresh::{CORNER, ends, fresh};
 use std::test::Fail;
 
 #[test]
