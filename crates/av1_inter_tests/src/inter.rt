@@ -21,7 +21,6 @@ fn precision_of(n: usize) -> MvSubpelPrecision {
 
 // The bits and the bytes of a vector against another.
 fn vector(
-    rt: &impl Abort,
     alloc: Global,
     mv: MotionVector,
     ref_mv: MotionVector,
@@ -35,7 +34,7 @@ fn vector(
     let mut cw = fresh(alloc, 2, 2)?;
     let mut w = WriterEncoder::new(alloc);
     cw.write_mv(&mut w, mv, ref_mv, precision)?;
-    ends(rt, w, bits, bytes)
+    ends(w, bits, bytes)
 }
 
 #[test]
@@ -43,7 +42,7 @@ fn a_vector_of_one_sample(rt: HostRuntime) -> Result<(), Fail> {
     let mv = MotionVector { row: 0, col: 8 };
     let zero = MotionVector { row: 0, col: 0 };
     let whole = MvSubpelPrecision::MV_SUBPEL_NONE;
-    vector(&rt, rt.alloc(), mv, zero, whole, 9, &[0x40, 0x80])
+    vector(rt.alloc(), mv, zero, whole, 9, &[0x40, 0x80])
 }
 
 #[test]
@@ -51,7 +50,7 @@ fn a_vector_of_both_signs(rt: HostRuntime) -> Result<(), Fail> {
     let mv = MotionVector { row: -16, col: 24 };
     let ref_mv = MotionVector { row: 8, col: -8 };
     let whole = MvSubpelPrecision::MV_SUBPEL_NONE;
-    vector(&rt, rt.alloc(), mv, ref_mv, whole, 14, &[0xe3, 0x04])
+    vector(rt.alloc(), mv, ref_mv, whole, 14, &[0xe3, 0x04])
 }
 
 #[test]
@@ -59,15 +58,7 @@ fn a_vector_of_eighths(rt: HostRuntime) -> Result<(), Fail> {
     let mv = MotionVector { row: -1, col: 3 };
     let ref_mv = MotionVector { row: 4, col: -9 };
     let eighths = MvSubpelPrecision::MV_SUBPEL_HIGH_PRECISION;
-    vector(
-        &rt,
-        rt.alloc(),
-        mv,
-        ref_mv,
-        eighths,
-        20,
-        &[0xe0, 0xba, 0x70],
-    )
+    vector(rt.alloc(), mv, ref_mv, eighths, 20, &[0xe0, 0xba, 0x70])
 }
 
 // The number that bytes write after a 1.
@@ -138,7 +129,7 @@ fn components_in_a_row(rt: HostRuntime) -> Result<(), Fail> {
     cw.encode_mv_component(&mut w, 15, 0, precision_of(2))?;
     cw.encode_mv_component(&mut w, -100, 1, precision_of(2))?;
     cw.encode_mv_component(&mut w, 1000, 0, precision_of(2))?;
-    ends(&rt, w, 46, &[0x03, 0x11, 0xb1, 0x68, 0x8e, 0x1c])
+    ends(w, 46, &[0x03, 0x11, 0xb1, 0x68, 0x8e, 0x1c])
 }
 
 #[test]
@@ -150,7 +141,7 @@ fn modes_in_a_row(rt: HostRuntime) -> Result<(), Fail> {
     cw.write_inter_mode(&mut w, PredictionMode::NEARESTMV, 0x55)?;
     cw.write_inter_mode(&mut w, PredictionMode::NEAR0MV, 0x23)?;
     cw.write_inter_mode(&mut w, PredictionMode::NEARESTMV, 0x5d)?;
-    ends(&rt, w, 13, &[0x5b, 0xc8])
+    ends(w, 13, &[0x5b, 0xc8])
 }
 
 #[test]
@@ -162,7 +153,7 @@ fn compound_modes_in_a_row(rt: HostRuntime) -> Result<(), Fail> {
     cw.write_compound_mode(&mut w, PredictionMode::NEAR_NEW0MV, 0x24)?;
     cw.write_compound_mode(&mut w, PredictionMode::NEAREST_NEARESTMV, 0)?;
     cw.write_compound_mode(&mut w, PredictionMode::NEW_NEWMV, 0x55)?;
-    ends(&rt, w, 16, &[0x1d, 0xdd])
+    ends(w, 16, &[0x1d, 0xdd])
 }
 
 #[test]
@@ -170,8 +161,8 @@ fn an_inter_block_and_a_later_candidate(rt: HostRuntime) -> Result<(), Fail> {
     let mut cw = fresh(rt.alloc(), 2, 2)?;
     let mut w = WriterEncoder::new(rt.alloc());
     cw.write_is_inter(&mut w, CORNER, true)?;
-    ends(&rt, w, 2, &[0xc0])?;
+    ends(w, 2, &[0xc0])?;
     let mut w = WriterEncoder::new(rt.alloc());
     cw.write_drl_mode(&mut w, true, 2)?;
-    ends(&rt, w, 2, &[0xc0])
+    ends(w, 2, &[0xc0])
 }

@@ -8,7 +8,6 @@ use av1_ec::{Writer, WriterBase, WriterEncoder};
 use av1_geometry::{BlockOffset, OutOfMemory, TileBlockOffset};
 use av1_syntax::ContextWriter;
 use std::alloc::Global;
-use std::process::Abort;
 use std::test::Fail;
 
 /// The first block.
@@ -27,15 +26,13 @@ pub fn fresh(alloc: Global, cols: usize, rows: usize) -> Result<ContextWriter, O
     Ok(ContextWriter::new(alloc, CDFContext::uniform(), bc))
 }
 
-/// Whether an encoder tells these bits, and gives these bytes.
-pub fn ends(
-    rt: &impl Abort,
-    w: WriterBase<WriterEncoder>,
-    bits: u32,
-    bytes: &[u8],
-) -> Result<(), Fail> {
-    assert_eq!(rt; w.tell(), bits);
-    let written = w.done()?;
-    assert_eq!(rt; written.as_slice(), bytes);
+/// Fails unless an encoder tells these bits and gives these bytes.
+pub fn ends(w: WriterBase<WriterEncoder>, bits: u32, bytes: &[u8]) -> Result<(), Fail> {
+    if w.tell() != bits {
+        return Err("other bits".into());
+    }
+    if w.done()?.as_slice() != bytes {
+        return Err("other bytes".into());
+    }
     Ok(())
 }

@@ -35,7 +35,7 @@ fn no_filter(rt: HostRuntime) -> Result<(), Fail> {
     let mut w = WriterEncoder::new(rt.alloc());
     let mut rs = tile(RESTORE_SGRPROJ);
     cw.write_lrf(&mut w, &mut rs, 0, RestorationFilter::None)?;
-    ends(&rt, w, 3, &[0x20])
+    ends(w, 3, &[0x20])
 }
 
 #[test]
@@ -46,7 +46,7 @@ fn a_self_guided_filter(rt: HostRuntime) -> Result<(), Fail> {
     let mut rs = tile(RESTORE_SGRPROJ);
     cw.write_lrf(&mut w, &mut rs, 0, set_14())?;
     assert_eq!(rt; rs.planes[0].sgrproj_ref, [-32, 95]);
-    ends(&rt, w, 11, &[0xf0, 0x20])
+    ends(w, 11, &[0xf0, 0x20])
 }
 
 #[test]

@@ -11,10 +11,10 @@ fn a_type_by_its_set(rt: HostRuntime) -> Result<(), Fail> {
     let dc = PredictionMode::DC_PRED;
     let mut w = WriterEncoder::new(rt.alloc());
     cw.write_tx_type(&mut w, TxSize::TX_8X8, TxType::DCT_DCT, dc, false, false)?;
-    ends(&rt, w, 4, &[0x30])?;
+    ends(w, 4, &[0x30])?;
     let mut w = WriterEncoder::new(rt.alloc());
     cw.write_tx_type(&mut w, TxSize::TX_16X16, TxType::V_DCT, dc, true, false)?;
-    ends(&rt, w, 5, &[0x18])
+    ends(w, 5, &[0x18])
 }
 
 #[test]
@@ -23,10 +23,10 @@ fn a_type_of_reduced_sets(rt: HostRuntime) -> Result<(), Fail> {
     let dc = PredictionMode::DC_PRED;
     let mut w = WriterEncoder::new(rt.alloc());
     cw.write_tx_type(&mut w, TxSize::TX_8X8, TxType::IDTX, dc, true, true)?;
-    ends(&rt, w, 3, &[0x20])?;
+    ends(w, 3, &[0x20])?;
     let mut w = WriterEncoder::new(rt.alloc());
     cw.write_tx_type(&mut w, TxSize::TX_4X4, TxType::ADST_DCT, dc, false, true)?;
-    ends(&rt, w, 4, &[0xb0])
+    ends(w, 4, &[0xb0])
 }
 
 #[test]
@@ -35,7 +35,7 @@ fn no_type_where_there_is_one(rt: HostRuntime) -> Result<(), Fail> {
     let mut w = WriterEncoder::new(rt.alloc());
     let dc = PredictionMode::DC_PRED;
     cw.write_tx_type(&mut w, TxSize::TX_64X16, TxType::DCT_DCT, dc, true, false)?;
-    ends(&rt, w, 1, &[0x80])
+    ends(w, 1, &[0x80])
 }
 
 #[test]
@@ -48,7 +48,7 @@ fn a_size_beside_a_smaller_one(rt: HostRuntime) -> Result<(), Fail> {
         .update_tx_size_context(CORNER, size, TxSize::TX_4X4, false);
     let right = TileBlockOffset(BlockOffset { x: 2, y: 0 });
     cw.write_tx_size_intra(&mut w, right, size, TxSize::TX_8X8)?;
-    ends(&rt, w, 4, &[0x90])
+    ends(w, 4, &[0x90])
 }
 
 #[test]
@@ -61,7 +61,7 @@ fn a_size_beside_the_largest(rt: HostRuntime) -> Result<(), Fail> {
         .update_tx_size_context(CORNER, size, TxSize::TX_8X8, false);
     let right = TileBlockOffset(BlockOffset { x: 2, y: 0 });
     cw.write_tx_size_intra(&mut w, right, size, TxSize::TX_4X4)?;
-    ends(&rt, w, 4, &[0x50])
+    ends(w, 4, &[0x50])
 }
 
 #[test]
@@ -74,7 +74,7 @@ fn a_split_at_the_last_column(rt: HostRuntime) -> Result<(), Fail> {
         .set_mode(CORNER, size, PredictionMode::NEARESTMV);
     cw.write_skip(&mut w, CORNER, true)?;
     cw.write_tx_size_inter(&mut w, CORNER, size, TxSize::TX_16X16, true, 0, 0, 0)?;
-    ends(&rt, w, 5, &[0xc8])
+    ends(w, 5, &[0xc8])
 }
 
 #[test]
@@ -90,5 +90,5 @@ fn a_whole_transform_beside_a_split_one(rt: HostRuntime) -> Result<(), Fail> {
     let right = TileBlockOffset(BlockOffset { x: 4, y: 0 });
     cw.write_skip(&mut w, right, true)?;
     cw.write_tx_size_inter(&mut w, right, size, TxSize::TX_16X16, false, 0, 0, 0)?;
-    ends(&rt, w, 9, &[0xc3, 0x80])
+    ends(w, 9, &[0xc3, 0x80])
 }
