@@ -11,7 +11,7 @@ use Rattle.av1_model.specs.Position.{Position, interval_of, advance_all, encoder
 abbrev pub tell_at : Position → ℕ
 tell_at p = p.shift + 1 + p.fake / 256
 
--- in eighths of a bit: the fake bits are counted twice, whole ones as eighths and all of them as 256ths
+-- in eighths of a bit: each whole fake bit counts as eight of them, and each 256th once more as one
 abbrev pub tell_frac_at : Position → ℕ
 tell_frac_at p = eighths (interval_of p) + 8 * (p.fake / 256) + p.fake
 

@@ -23,7 +23,7 @@ pub(crate) fn symbol_eighths(rng: u16, s: u32, cdf: &[u16]) -> u32
     8 * d + log_eighths(u32::from(rng)) - log_eighths(u32::from(width << d))
 }
 
-// The first three binary digits of the logarithm of a range.
+// Three binary digits for the logarithm of a range, by squares that are cut to 16 bits, as rav1e finds them.
 #[inline(always)]
 pub(crate) fn log_eighths(rng: u32) -> u32
     requires least { 32768 ≤ rng }

@@ -179,8 +179,8 @@ pub trait Writer: Known {
         ensures reached { KeepsReachedUpTo Self.Known (reach checkpoint.now) self.old self.new }
         ensures kept { KeepsPositionsUpTo Self.Known (reach checkpoint.now) self.old self.new };
 
-    /// How many eighths of a bit the symbols take so far. The fake bits are counted twice, whole ones as eighths and all of
-    /// them as 256ths, as in rav1e.
+    /// How many eighths of a bit the symbols take so far. The fake bits are counted twice, as in rav1e: each whole one as eight
+    /// eighths, and each of their 256ths once more as one.
     fn tell_frac(&self) -> u32
         ensures { result ≡ tell_frac_at (Self.position self.now) };
 
