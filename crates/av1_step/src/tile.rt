@@ -1,7 +1,7 @@
 // The state of a tile, which steps move on.
 ghost use Rattle.std.specs.Prelude.{◌≡◌, ◌+◌, ◌^◌, ◌≤◌, ◌<◌, ◌∷◌, [], None, option_map, IfOk, OnOk, OnErr};
 ghost use Rattle.av1_cdf.specs.Context.{AreCdfs};
-ghost use Rattle.av1_cdf.specs.Log.{KeepsUndone};
+ghost use Rattle.av1_cdf.specs.Log.{KeepsUndone, stored};
 ghost use Rattle.av1_ec.specs.Storing.{Keeps};
 ghost use Rattle.av1_step.specs.Kept.{IsKept};
 ghost use Rattle.av1_step.specs.Place.{tile_at, AreSwitches};
@@ -59,11 +59,12 @@ impl<'u> TileState<'u> {
     ghost use Rattle.av1_step.specs.Script.{begin};
     ghost use Rattle.av1_step.specs.Writing.{Writes, WroteStep};
 
-    /// A tile of a unit before its first step.
+    /// A tile of a unit before its first step, with an empty log.
     pub fn new(alloc: Global, unit: &'u Unit, tile: usize) -> Result<Self, OutOfMemory>
         requires given { IsGiven (given_of unit.now) }
         requires tile { tile < tile_count unit.now.fi }
-        ensures { IfOk result (λ s. tile_of s ≡ (begin (given_of unit.now) tile).context) }
+        ensures tile { IfOk result (λ s. tile_of s ≡ (begin (given_of unit.now) tile).context) }
+        ensures log { IfOk result (λ s. stored (log_of s) ≡ 0) }
     {
         let blocks = fresh_blocks(alloc, &unit.fi, tile)?;
         let fc = CDFContext::new(&unit.tables, unit.fi.base_q_idx);

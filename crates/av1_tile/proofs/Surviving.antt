@@ -46,7 +46,6 @@ choose true wrong say broken rest some h = cc
 choose false wrong say None rest some h = (refl, refl, h)
 choose false wrong say (Some rule) rest some h = absurd (some rule h)
 
--- where nothing is wrong from an item on, the item is in its place, breaks no rule, and nothing is wrong after it
 -- an item with no fault breaks no rule, and doesn't come too late
 pub no_fault : (item : Item) (at : Coding Tile) → item_fault item at ≡ None → (too_long item at ≡ false) × (first_broken (item_rules item at.context) ≡ None)
 no_fault item at h = neither (too_long item at) (first_broken (item_rules item at.context)) h
@@ -56,6 +55,7 @@ no_fault item at h = neither (too_long item at) (first_broken (item_rules item a
     neither false None e = (refl, refl)
     neither false (Some rule) e = cc
 
+-- where nothing is wrong from an item on, the item is in its place, breaks no rule, and nothing is wrong after it
 pub nothing_wrong : (n : ℕ) (p : Progress) (item : Item) (items : List Item) → first_wrong n p (item ∷ items) ≡ None
     → (misplaced item p.at.context p.trials ≡ false) × (first_broken (item_rules item p.at.context) ≡ None) × (first_wrong (n + 1) (moved n p item) items ≡ None)
 nothing_wrong n p item items h =

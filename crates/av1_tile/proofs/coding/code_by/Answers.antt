@@ -11,7 +11,7 @@ use Rattle.av1_tile.proofs.Coming.{costs_all}
 use Rattle.av1_tile.proofs.coding.code_by.Goals as goal
 
 pub code_items-requires : goal.code_items-requires
-code_items-requires g c = record { standing = (g.W.Known.position c.args.writer, started (begin (given_of c.args.unit.now) c.args.tile), fresh_stands g.W.Known (g.W.Known.position c.args.writer) (given_of c.args.unit.now) c.args.tile c.in_ok-new.field-0 c.args.writer _ _ _ (fresh_sound (given_of c.args.unit.now) c.args.tile c.requires.given c.requires.tile (cdfs_of_tables c.args.unit.now.tables c.args.unit.now.fi.base_q_idx c.requires.given.tables)) c.in_ok-new.ensures c.requires.new refl c.new-2.ensures.items c.new-3.ensures.begun c.new-3.ensures.all) }
+code_items-requires g c = record { standing = (g.W.Known.position c.args.writer, started (begin (given_of c.args.unit.now) c.args.tile), fresh_stands g.W.Known (g.W.Known.position c.args.writer) (given_of c.args.unit.now) c.args.tile c.in_ok-new.field-0 c.args.writer _ _ _ (fresh_sound (given_of c.args.unit.now) c.args.tile c.requires.given c.requires.tile (cdfs_of_tables c.args.unit.now.tables c.args.unit.now.fi.base_q_idx c.requires.given.tables)) c.in_ok-new.ensures.tile c.requires.new refl c.new-2.ensures.items c.new-3.ensures.begun c.new-3.ensures.all) }
 
 pub returns-in_err-code_items-clause-err : goal.returns-in_err-code_items-clause-err
 returns-in_err-code_items-clause-err g c =
@@ -21,7 +21,7 @@ returns-in_err-code_items-clause-err g c =
     let told : (e ≡ OutOfMemory) ⊎ (wrong_in (given_of c.args.unit.now) c.args.tile (script_of c.args.unit.now c.args.tile) ≡ Some e) =
     elim ensures.err [
       | inl m ↦ inl m
-      | inr here ↦ inr (here (g.W.Known.position c.args.writer) _ (fresh_stands g.W.Known (g.W.Known.position c.args.writer) (given_of c.args.unit.now) c.args.tile c.in_ok-new.field-0 c.args.writer _ _ _ (fresh_sound (given_of c.args.unit.now) c.args.tile c.requires.given c.requires.tile (cdfs_of_tables c.args.unit.now.tables c.args.unit.now.fi.base_q_idx c.requires.given.tables)) c.in_ok-new.ensures c.requires.new refl c.new-2.ensures.items c.new-3.ensures.begun c.new-3.ensures.all))
+      | inr here ↦ inr (here (g.W.Known.position c.args.writer) _ (fresh_stands g.W.Known (g.W.Known.position c.args.writer) (given_of c.args.unit.now) c.args.tile c.in_ok-new.field-0 c.args.writer _ _ _ (fresh_sound (given_of c.args.unit.now) c.args.tile c.requires.given c.requires.tile (cdfs_of_tables c.args.unit.now.tables c.args.unit.now.fi.base_q_idx c.requires.given.tables)) c.in_ok-new.ensures.tile c.requires.new refl c.new-2.ensures.items c.new-3.ensures.begun c.new-3.ensures.all))
     ] in
     let is : c.from_residual-in_err-code_items.result ≡ Err e = search rules in
     rw (is) told
@@ -30,24 +30,24 @@ pub returns-clause-allowed : goal.returns-clause-allowed
 returns-clause-allowed g c =
     let items : c.deref.result.now ≡ script_of c.args.unit.now c.args.tile = c.deref.ensures.value ∙ c.script.view_is ∙ c.index-script.ensures ∙ get_or_default c.args.unit.now.scripts.items c.args.tile _ [] c.requires.script in
     let done = rw (items) at c.in_ok-code_items.ensures in
-    done.right (g.W.Known.position c.args.writer) _ (fresh_stands g.W.Known (g.W.Known.position c.args.writer) (given_of c.args.unit.now) c.args.tile c.in_ok-new.field-0 c.args.writer _ _ _ (fresh_sound (given_of c.args.unit.now) c.args.tile c.requires.given c.requires.tile (cdfs_of_tables c.args.unit.now.tables c.args.unit.now.fi.base_q_idx c.requires.given.tables)) c.in_ok-new.ensures c.requires.new refl c.new-2.ensures.items c.new-3.ensures.begun c.new-3.ensures.all)
+    done.right (g.W.Known.position c.args.writer) _ (fresh_stands g.W.Known (g.W.Known.position c.args.writer) (given_of c.args.unit.now) c.args.tile c.in_ok-new.field-0 c.args.writer _ _ _ (fresh_sound (given_of c.args.unit.now) c.args.tile c.requires.given c.requires.tile (cdfs_of_tables c.args.unit.now.tables c.args.unit.now.fi.base_q_idx c.requires.given.tables)) c.in_ok-new.ensures.tile c.requires.new refl c.new-2.ensures.items c.new-3.ensures.begun c.new-3.ensures.all)
 
 pub returns-clause-coded : goal.returns-clause-coded
 returns-clause-coded g c =
     let items : c.deref.result.now ≡ script_of c.args.unit.now c.args.tile = c.deref.ensures.value ∙ c.script.view_is ∙ c.index-script.ensures ∙ get_or_default c.args.unit.now.scripts.items c.args.tile _ [] c.requires.script in
     let done = rw (items) at c.in_ok-code_items.ensures in
-    (done.ok (g.W.Known.position c.args.writer) _ (fresh_stands g.W.Known (g.W.Known.position c.args.writer) (given_of c.args.unit.now) c.args.tile c.in_ok-new.field-0 c.args.writer _ _ _ (fresh_sound (given_of c.args.unit.now) c.args.tile c.requires.given c.requires.tile (cdfs_of_tables c.args.unit.now.tables c.args.unit.now.fi.base_q_idx c.requires.given.tables)) c.in_ok-new.ensures c.requires.new refl c.new-2.ensures.items c.new-3.ensures.begun c.new-3.ensures.all)).coded
+    (done.ok (g.W.Known.position c.args.writer) _ (fresh_stands g.W.Known (g.W.Known.position c.args.writer) (given_of c.args.unit.now) c.args.tile c.in_ok-new.field-0 c.args.writer _ _ _ (fresh_sound (given_of c.args.unit.now) c.args.tile c.requires.given c.requires.tile (cdfs_of_tables c.args.unit.now.tables c.args.unit.now.fi.base_q_idx c.requires.given.tables)) c.in_ok-new.ensures.tile c.requires.new refl c.new-2.ensures.items c.new-3.ensures.begun c.new-3.ensures.all)).coded
 
 pub returns-clause-few : goal.returns-clause-few
 returns-clause-few g c =
     let items : c.deref.result.now ≡ script_of c.args.unit.now c.args.tile = c.deref.ensures.value ∙ c.script.view_is ∙ c.index-script.ensures ∙ get_or_default c.args.unit.now.scripts.items c.args.tile _ [] c.requires.script in
     let done = rw (items) at c.in_ok-code_items.ensures in
-    (done.ok (g.W.Known.position c.args.writer) _ (fresh_stands g.W.Known (g.W.Known.position c.args.writer) (given_of c.args.unit.now) c.args.tile c.in_ok-new.field-0 c.args.writer _ _ _ (fresh_sound (given_of c.args.unit.now) c.args.tile c.requires.given c.requires.tile (cdfs_of_tables c.args.unit.now.tables c.args.unit.now.fi.base_q_idx c.requires.given.tables)) c.in_ok-new.ensures c.requires.new refl c.new-2.ensures.items c.new-3.ensures.begun c.new-3.ensures.all)).few
+    (done.ok (g.W.Known.position c.args.writer) _ (fresh_stands g.W.Known (g.W.Known.position c.args.writer) (given_of c.args.unit.now) c.args.tile c.in_ok-new.field-0 c.args.writer _ _ _ (fresh_sound (given_of c.args.unit.now) c.args.tile c.requires.given c.requires.tile (cdfs_of_tables c.args.unit.now.tables c.args.unit.now.fi.base_q_idx c.requires.given.tables)) c.in_ok-new.ensures.tile c.requires.new refl c.new-2.ensures.items c.new-3.ensures.begun c.new-3.ensures.all)).few
 
 pub returns-clause-trials : goal.returns-clause-trials
 returns-clause-trials g c =
     let items : c.deref.result.now ≡ script_of c.args.unit.now c.args.tile = c.deref.ensures.value ∙ c.script.view_is ∙ c.index-script.ensures ∙ get_or_default c.args.unit.now.scripts.items c.args.tile _ [] c.requires.script in
     let done = rw (items) at c.in_ok-code_items.ensures in
-    let f = fresh_stands g.W.Known (g.W.Known.position c.args.writer) (given_of c.args.unit.now) c.args.tile c.in_ok-new.field-0 c.args.writer _ _ _ (fresh_sound (given_of c.args.unit.now) c.args.tile c.requires.given c.requires.tile (cdfs_of_tables c.args.unit.now.tables c.args.unit.now.fi.base_q_idx c.requires.given.tables)) c.in_ok-new.ensures c.requires.new refl c.new-2.ensures.items c.new-3.ensures.begun c.new-3.ensures.all in
+    let f = fresh_stands g.W.Known (g.W.Known.position c.args.writer) (given_of c.args.unit.now) c.args.tile c.in_ok-new.field-0 c.args.writer _ _ _ (fresh_sound (given_of c.args.unit.now) c.args.tile c.requires.given c.requires.tile (cdfs_of_tables c.args.unit.now.tables c.args.unit.now.fi.base_q_idx c.requires.given.tables)) c.in_ok-new.ensures.tile c.requires.new refl c.new-2.ensures.items c.new-3.ensures.begun c.new-3.ensures.all in
     (done.ok (g.W.Known.position c.args.writer) _ f).costs_are
     ∙ costs_all (started (begin (given_of c.args.unit.now) c.args.tile)) (script_of c.args.unit.now c.args.tile) (done.right (g.W.Known.position c.args.writer) _ f)
