@@ -44,15 +44,15 @@ answered (BadShape path) s r = let P : Shape → Type 0 = λ x. IsAnswerTo x (Ba
 answered (Refused place rule) s r =
     let P : Shape → Type 0 = λ x. IsAnswerTo x (Refused place rule) in
     let Q : Option UnitError → Type 0 = λ o. IsVerdict o (Refused place rule) in
-    inr (subst P (sym r.fits) (subst Q (sym r.refusal) refl))
+    inr (subst P (sym r.fits) (subst Q (sym r.is) refl))
 answered (BadScript tile item) s r =
     let P : Shape → Type 0 = λ x. IsAnswerTo x (BadScript tile item) in
     let Q : Option UnitError → Type 0 = λ o. IsVerdict o (BadScript tile item) in
-    inr (subst P (sym r.fits) (subst Q (sym r.refusal) refl))
+    inr (subst P (sym r.fits) (subst Q (sym r.is) refl))
 answered (TooLong place) s r =
     let P : Shape → Type 0 = λ x. IsAnswerTo x (TooLong place) in
     let Q : Option UnitError → Type 0 = λ o. IsVerdict o (TooLong place) in
-    inr (subst P (sym r.fits) (subst Q (sym r.refusal) refl))
+    inr (subst P (sym r.fits) (subst Q (sym r.is) refl))
 answered SinkFault s r = absurd r
 answered OutOfMemory s r = inl refl
 
@@ -80,7 +80,7 @@ IsValidShape (Fits found) = first_refusal found.0 ≡ None
 pub made_valid : (status : Status) (n : ℕ) (before after : Option (List ℕ)) (old new : ℕ) → IsValid (made n) → Explains status (Some (Make n)) before after old new → status ≡ OutOfMemory
 unfolding IsValidShape
 made_valid status n before after old new v e =
-    let right : first_refusal (made_unit n) ≡ None = subst IsValidShape (sym v.fits) v.valid in
+    let right : first_refusal (made_unit n) ≡ None = subst IsValidShape (sym v.fits) v.is in
     let Why : Status → Type 0 = λ s. Explains s (Some (Make n)) before after old new in
     let Verdict : Option UnitError → Type 0 = λ o. IsVerdict o status in
     elim (made_answered status n before after old new e) [

@@ -17,11 +17,11 @@ use Rattle.av1_program.specs.Status.{of_unit_error}
 pub is_refusal : (shape : Shape) (unit : PlainUnit) (via : Via) (error : UnitError) → shape ≡ Fits (unit, via) → (error ≡ OutOfMemory) ⊎ (first_refusal unit ≡ Some error)
     → IsRefusal (of_unit_error error) shape
 is_refusal shape unit via (Refused place rule) fits (inl e) = absurd cc
-is_refusal shape unit via (Refused place rule) fits (inr e) = record { unit = unit; via = via; fits = fits; refusal = e }
+is_refusal shape unit via (Refused place rule) fits (inr e) = record { unit = unit; via = via; fits = fits; is = e }
 is_refusal shape unit via (BadScript tile item) fits (inl e) = absurd cc
-is_refusal shape unit via (BadScript tile item) fits (inr e) = record { unit = unit; via = via; fits = fits; refusal = e }
+is_refusal shape unit via (BadScript tile item) fits (inr e) = record { unit = unit; via = via; fits = fits; is = e }
 is_refusal shape unit via (TooLong place) fits (inl e) = absurd cc
-is_refusal shape unit via (TooLong place) fits (inr e) = record { unit = unit; via = via; fits = fits; refusal = e }
+is_refusal shape unit via (TooLong place) fits (inr e) = record { unit = unit; via = via; fits = fits; is = e }
 is_refusal shape unit via SinkFault fits (inl e) = absurd cc
 is_refusal shape unit via SinkFault fits (inr e) = absurd (no_sink unit e)
 is_refusal shape unit via OutOfMemory fits cause = tt

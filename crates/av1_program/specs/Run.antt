@@ -33,33 +33,28 @@ pub record IsOutput (asked : Option Word) (shape : Shape) (out err : List ℕ) :
   pub out_is : out ≡ out_text word bytes report
   pub err_is : err ≡ err_text word report
 
--- it stands for a unit that breaks this rule at this place, and nothing before it is wrong
-pub record IsRefused (place : Place) (rule : Rule) (shape : Shape) : Type 0 where
+-- it stands for a unit of which P holds
+pub record StandsFor (P : PlainUnit → Type 0) (shape : Shape) : Type 0 where
   pub unit : PlainUnit
   pub via : Via
   pub fits : shape ≡ Fits (unit, via)
-  pub refusal : first_refusal unit ≡ Some (errors.Refused place rule)
+  pub is : P unit
+
+-- it stands for a unit that breaks this rule at this place, and nothing before it is wrong
+abbrev pub IsRefused : Place → Rule → Shape → Type 0
+IsRefused place rule = StandsFor (λ unit. first_refusal unit ≡ Some (errors.Refused place rule))
 
 -- it stands for a unit whose script is bad at this item, and nothing before it is wrong
-pub record HasBadScript (tile item : ℕ) (shape : Shape) : Type 0 where
-  pub unit : PlainUnit
-  pub via : Via
-  pub fits : shape ≡ Fits (unit, via)
-  pub refusal : first_refusal unit ≡ Some (errors.BadScript tile item)
+abbrev pub HasBadScript : ℕ → ℕ → Shape → Type 0
+HasBadScript tile item = StandsFor (λ unit. first_refusal unit ≡ Some (errors.BadScript tile item))
 
 -- it stands for a unit that has a step here that would begin after too many bits, and nothing before it is wrong
-pub record IsTooLong (place : Place) (shape : Shape) : Type 0 where
-  pub unit : PlainUnit
-  pub via : Via
-  pub fits : shape ≡ Fits (unit, via)
-  pub refusal : first_refusal unit ≡ Some (errors.TooLong place)
+abbrev pub IsTooLong : Place → Shape → Type 0
+IsTooLong place = StandsFor (λ unit. first_refusal unit ≡ Some (errors.TooLong place))
 
 -- it stands for a valid unit
-pub record IsValid (shape : Shape) : Type 0 where
-  pub unit : PlainUnit
-  pub via : Via
-  pub fits : shape ≡ Fits (unit, via)
-  pub valid : first_refusal unit ≡ None
+abbrev pub IsValid : Shape → Type 0
+IsValid = StandsFor (λ unit. first_refusal unit ≡ None)
 
 -- The source was read to its end, and of the input P holds: of all bytes that were left, where the source tells them.
 pub record Reads (before after : Option (List ℕ)) (P : List ℕ → Type 0) : Type 0 where
