@@ -1,17 +1,15 @@
 // Worked units on an 8x8 frame, and larger ones.
-ghost use Rattle.std.specs.Prelude.{◌≡◌};
-ghost use Rattle.av1_step.specs.Given.{broken_scan_rule};
-
 use crate::reader::PlainReader;
+use crate::state::first_state;
 use av1_bits::MemSink;
-use av1_cdf::{Tables, check_tables};
-use av1_coef::{Scans, check_scans, diagonal};
+use av1_cdf::Tables;
+use av1_coef::{Scans, diagonal};
 use av1_ec::{Writer, WriterCounter, WriterEncoder};
 use av1_geometry::{BlockOffset, BlockSize, ChromaSampling, OutOfMemory, Rule, TileBlockOffset};
 use av1_unit::{
     ContentLight, FrameInvariants, FrameState, Item, Metadata, Place, Report, Sequence, StepFault,
-    TileReport, TileScript, TileState, TileStep, Unit, UnitError, Via, check_frame, check_sequence,
-    check_step, count_tile, law_of_steps, law_of_tile_counts, unit_bytes, write_unit,
+    TileReport, TileScript, TileState, TileStep, Unit, UnitError, Via, check_step, count_tile,
+    law_of_steps, unit_bytes, write_unit,
 };
 use av1_uses::cost_of_skip;
 use std::alloc::{AllocError, Global};
@@ -156,31 +154,6 @@ fn step<W: Writer>(tile: &mut TileState, w: &mut W, step: &TileStep) -> Result<b
     law_of_steps();
     tile.write_step(w, step)?;
     Ok(true)
-}
-
-// The first rule that the scans of a unit break.
-fn broken_scan_rule(unit: &Unit) -> Option<Rule>
-    ensures { result ≡ broken_scan_rule unit.now.scans }
-{
-    check_scans(&unit.scans)
-}
-
-// The state that the first tile of a unit begins with, where tables, scans and headers break no rule.
-pub(crate) fn first_state<'u>(alloc: Global, unit: &'u Unit) -> Result<TileState<'u>, Fail> {
-    if check_tables(&unit.tables).is_some() {
-        return Err("a broken rule".into());
-    }
-    if broken_scan_rule(unit).is_some() {
-        return Err("a broken rule".into());
-    }
-    if check_sequence(&unit.fi.sequence).is_some() {
-        return Err("a broken rule".into());
-    }
-    if check_frame(&unit.fi, &unit.fs, &unit.refs).is_some() {
-        return Err("a broken rule".into());
-    }
-    law_of_tile_counts();
-    Ok(TileState::new(alloc, unit, 0)?)
 }
 
 #[test]

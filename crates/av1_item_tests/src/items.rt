@@ -4,10 +4,10 @@ ghost use Rattle.av1_tile.specs.Items.{Stage, TakesOne, TakesAll, ends_its_own};
 ghost use Rattle.av1_tile.specs.Marks.{AreMarks};
 ghost use Rattle.av1_step.specs.State.{tile_of};
 
-use crate::rows::first_state;
 use av1_ec::{Writer, WriterEncoder};
 use av1_geometry::{BlockOffset, BlockSize, OutOfMemory, PredictionMode, TileBlockOffset};
 use av1_make::make_unit;
+use av1_tests::state::first_state;
 use av1_unit::{
     Item, Report, TileReport, TileState, TileStep, TrialMark, Unit, Via, can_come, law_of_steps,
     law_of_trials, unit_bytes, write_item,

@@ -1,7 +1,7 @@
 use Rattle.std.proofs.Common.{take}
 use Rattle.av1_tile.specs.Items.{TakesAll}
 use Rattle.av1_tile.specs.Marks.{AreMarks}
-use Rattle.av1_tests.proofs.items.take_all.Given as goal
+use Rattle.av1_item_tests.proofs.items.take_all.Given as goal
 
 abbrev pub invariant-loop-item : goal.invariant-loop-item
 invariant-loop-item g l =

@@ -1,7 +1,7 @@
 use Rattle.std.proofs.Common.{◌≡◌, false, Option, None, Some, refl, sym, ◌∙◌}
 use Rattle.std.specs.Prelude.{is_some}
 use Rattle.av1_step.specs.Given.{given_of, IsGiven}
-use Rattle.av1_tests.proofs.rows.first_state.Goals as goal
+use Rattle.av1_tests.proofs.state.first_state.Goals as goal
 
 none_of : {X : Type 0} (o : Option X) → is_some o ≡ false → o ≡ None
 none_of None h = refl

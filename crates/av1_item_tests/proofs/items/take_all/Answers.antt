@@ -1,6 +1,6 @@
 use Rattle.std.proofs.Common.{◌<◌, length, IsTrue, rules, sym, arith}
-use Rattle.av1_tests.proofs.Taking.{and_next}
-use Rattle.av1_tests.proofs.items.take_all.Goals as goal
+use Rattle.av1_item_tests.proofs.Taking.{and_next}
+use Rattle.av1_item_tests.proofs.items.take_all.Goals as goal
 
 pub loop-item-preserved : goal.loop-item-preserved
 loop-item-preserved g c =

@@ -1,6 +1,6 @@
 use Rattle.std.proofs.Common.{IsTrue, rules}
-use Rattle.av1_tests.proofs.Taking.{trial_taken}
-use Rattle.av1_tests.proofs.items.try_in_vain.Goals as goal
+use Rattle.av1_item_tests.proofs.Taking.{trial_taken}
+use Rattle.av1_item_tests.proofs.items.try_in_vain.Goals as goal
 
 pub returns : goal.returns
 returns g c came =
