@@ -1,5 +1,6 @@
 -- Rows that were worked out apart from these definitions, computed from the definitions alone.
-use Rattle.std.proofs.Common.{◌≡◌, ℕ, ◌*◌, List, [], ◌∷◌, Some, refl}
+use Rattle.std.proofs.Common.{◌≡◌, ℕ, ◌+◌, ◌*◌, List, [], ◌∷◌, Some, true, false, refl}
+use Rattle.std.specs.Prelude.{nat_lt}
 use Rattle.std.specs.Int.Count.{count_leading_zeros}
 use Rattle.av1_model.specs.Interval.{Interval, whole, narrow, point, bits, final_bytes}
 use Rattle.av1_model.specs.Cdf.{token_of, decoded_symbol, adapt}
@@ -53,6 +54,13 @@ point-one_zero = refl
 -- a low end just above a multiple: the next odd one, and not one more
 point-above : point 16385 * 16384 ≡ 49152
 point-above = refl
+
+-- it lies in the interval, but with 14 digits of ones after it, it would not
+point-above_in : nat_lt (point 16385 * 16384) (16385 + 32768) ≡ true
+point-above_in = refl
+
+point-above_filled : nat_lt (point 16385 * 16384 + 16383) (16385 + 32768) ≡ false
+point-above_filled = refl
 
 bits-whole : bits whole ≡ 1
 bits-whole = refl
