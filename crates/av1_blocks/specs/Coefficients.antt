@@ -70,3 +70,8 @@ txb_context plane size tx above left = record {
       else chroma_skip_context (is_larger size tx) above left;
   dc_sign_ctx = dc_sign_context above left;
 }
+
+-- the contexts of a transform block in a block, of which so many columns and rows of samples are inside the frame
+abbrev pub block_contexts : BlockContext → ℕ → BlockOffset → BlockSize → TxSize → ℕ → ℕ → ℕ → ℕ → TXB_CTX
+block_contexts bc plane bo plane_bsize size xdec ydec width height =
+    txb_context plane plane_bsize size (entries_above bc plane bo xdec width) (entries_left bc plane bo ydec height)

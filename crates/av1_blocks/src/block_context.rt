@@ -43,7 +43,7 @@ pub struct BlockContext {
 }
 
 impl BlockContext {
-    ghost use Rattle.av1_blocks.specs.Coefficients.{with_dc_sign, txb_context, entries_above, entries_left};
+    ghost use Rattle.av1_blocks.specs.Coefficients.{with_dc_sign, block_contexts};
     ghost use Rattle.av1_blocks.specs.Edges.{fresh, partition_context, planes_coded, taken, tx_width, tx_height};
     ghost use Rattle.av1_blocks.specs.Edges.{with_coefficients, with_edges, with_left_reset, with_partition, with_plane};
     ghost use Rattle.av1_blocks.specs.Edges.{with_reset, with_restored, with_skip_reset, with_tx_sides};
@@ -368,9 +368,8 @@ impl BlockContext {
         requires ydec { ydec ≤ 1 }
         requires columns { bo.0.x / 2 ^ xdec + frame_clipped_txw / 4 ≤ 1024 }
         requires rows { bo.0.y % 16 / 2 ^ ydec + frame_clipped_txh / 4 ≤ 16 }
-        ensures value { result ≡ txb_context plane plane_bsize tx_size
-            (entries_above self.now plane bo.0 xdec frame_clipped_txw)
-            (entries_left self.now plane bo.0 ydec frame_clipped_txh) }
+        ensures value { result ≡
+            block_contexts self.now plane bo.0 plane_bsize tx_size xdec ydec frame_clipped_txw frame_clipped_txh }
         ensures few_skips { result.txb_skip_ctx < 13 }
         ensures few_signs { result.dc_sign_ctx < 3 }
     {

@@ -36,6 +36,9 @@ padded_contexts class size levels scan n =
 abbrev pub sizes_of : {T : Type 0} → (T → ℤ) → List T → List ℕ
 sizes_of value coefficients = map (λ x. unsigned_abs (value x)) coefficients
 
+abbrev pub coeff_size : {T : Type 0} → (T → ℤ) → List T → ℕ → ℕ
+coeff_size value coefficients = slice_index (sizes_of value coefficients)
+
 -- room for the padded levels of w columns of h coefficients, n in all, with nothing in it
 pub record IsRoom (w h stride n : ℕ) (levels : List ℕ) : Type 0 where
   pub columns : stride ≡ h + 4

@@ -1,6 +1,6 @@
 // Coefficients as levels, which are their sizes up to 127, with room for the places that contexts read.
 ghost use Rattle.std.specs.Prelude.{◌≡◌, ℕ, ◌+◌, ◌<◌, ◌≤◌, min, length, slice_index, unsigned_abs};
-ghost use Rattle.av1_coef.specs.Padded.{level_after, column_after, sizes_of, IsPadded, IsRoom};
+ghost use Rattle.av1_coef.specs.Padded.{level_after, column_after, coeff_size, sizes_of, IsPadded, IsRoom};
 
 use crate::coefficient::Coefficient;
 
@@ -37,7 +37,7 @@ pub fn txb_init_levels<T: Coefficient>(
 
     // over zeros, in columns with four places of padding, they are the padded levels of a block
     ensures padded { (w : ℕ) → IsRoom w height levels_stride (length coeffs.now) levels.old →
-        IsPadded w height (slice_index (sizes_of T.value coeffs.now)) levels.new }
+        IsPadded w height (coeff_size T.value coeffs.now) levels.new }
 {
     let columns = (coeffs.len() / height).min(levels.len() / levels_stride);
     let rows = height.min(levels_stride);

@@ -22,9 +22,13 @@ pub record Referred : Type 0 where
   pub ref : RefType
   pub mv : MotionVector
 
+-- the blocks beside an edge, along so many places
+abbrev pub blocks_beside : Edge → ℕ → List Block
+blocks_beside e n = blocks_along (at_distance e 1) e.side_of 16 n 0
+
 -- the blocks above and to the left that are searched, along so many places
 abbrev pub searched_along : Edge → ℕ → List Block
-searched_along e n = if nat_lt 0 e.y then blocks_along (at_distance e 1) e.side_of 16 n 0 else []
+searched_along e n = if nat_lt 0 e.y then blocks_beside e n else []
 
 abbrev pub searched : Grid → BlockOffset → BlockSize → List Block
 searched g bo size =

@@ -121,6 +121,10 @@ pub record Neighbour : Type 0 where
 abbrev pub neighbour : Edge → ℕ → Block → Neighbour
 neighbour e d b = record { block = b; weight = weight_of e d b; is_above = e.is_above }
 
+-- those that the line gives
+abbrev pub neighbours_after : Edge → ℕ → ℕ → List Neighbour
+neighbours_after e n d = map (neighbour e d) (line_after e n d)
+
 -- a neighbour at a corner
 abbrev pub corner : Grid → ℕ → ℕ → Neighbour
 corner g x y = record { block = block_at g x y; weight = 4; is_above = true }
@@ -135,7 +139,7 @@ top_left g bo = if nat_lt 0 bo.x && nat_lt 0 bo.y then corner g (bo.x - 1) (bo.y
 -- a row above and a column to the left, each at its distance unless it is done
 unfoldable pub row_and_column : Edge → Edge → ℕ → ℕ → ℕ → ℕ → List Neighbour
 row_and_column u l row column rows_done columns_done =
-    map (neighbour u row) (line_after u rows_done row) ++ map (neighbour l column) (line_after l columns_done column)
+    neighbours_after u rows_done row ++ neighbours_after l columns_done column
 
 abbrev pub around : Grid → BlockOffset → BlockSize → ℕ → ℕ → ℕ → ℕ → List Neighbour
 around g bo size row column rows_done columns_done =

@@ -4,10 +4,10 @@ ghost use Rattle.std.specs.List.{list_any};
 ghost use Rattle.av1_blocks.specs.Grid.{IsInside};
 ghost use Rattle.av1_blocks.specs.Sound.{IsSound, IsReady};
 ghost use Rattle.av1_mvref.specs.declared.edge.Direction.TheVariants.{Upper, Left};
-ghost use Rattle.av1_mvref.specs.Neighbours.{pick, edge, at_distance, blocks_along, shown, edge_of};
+ghost use Rattle.av1_mvref.specs.Neighbours.{pick, edge, shown, edge_of};
 ghost use Rattle.av1_mvref.specs.Candidates.{same_mv};
 ghost use Rattle.av1_mvref.specs.Conditions.{IsReference, AreReferences};
-ghost use Rattle.av1_mvref.specs.ExtraSearch.{with_mv, with_vector, with_block, referred_in, searched, searched_along, completed};
+ghost use Rattle.av1_mvref.specs.ExtraSearch.{with_mv, with_vector, with_block, blocks_beside, referred_in, searched, searched_along, completed};
 
 use crate::candidate::{CandidateMV, Wanted};
 use crate::edge::{BlockEdge, Direction};
@@ -97,7 +97,7 @@ fn add_blocks(
     requires reference { IsReference to }
     requires few { length stack.old.items ≤ 3 }
     ensures items { let e = edge_of beside blocks.now in
-        stack.new.items ≡ fold (with_block sign_bias.now to) stack.old.items (blocks_along (at_distance e 1) e.side_of 16 n 0) }
+        stack.new.items ≡ fold (with_block sign_bias.now to) stack.old.items (blocks_beside e n) }
     ensures few { length stack.new.items ≤ 3 }
 {
     let mut i = 0;

@@ -2,11 +2,11 @@
 ghost use Rattle.std.specs.Prelude.{◌≡◌, ◌<◌, ◌≤◌, ◌++◌, ◌∷◌, [], length, flat_map, fold, take, slice_index_or};
 ghost use Rattle.av1_blocks.specs.Grid.{IsInside};
 ghost use Rattle.av1_blocks.specs.Sound.{IsSound, IsReady};
-ghost use Rattle.av1_mvref.specs.Neighbours.{pick, edge, at_distance, blocks_along, shown, edge_of};
+ghost use Rattle.av1_mvref.specs.Neighbours.{pick, edge, shown, edge_of};
 ghost use Rattle.av1_mvref.specs.Candidates.{no_vector};
 ghost use Rattle.av1_mvref.specs.Noted.{kept_same, kept_others};
 ghost use Rattle.av1_mvref.specs.Conditions.{IsReference};
-ghost use Rattle.av1_mvref.specs.ExtraSearch.{referred_in, referred, searched, searched_along, to_same, to_others, vectors_to, with_pairs, with_both, pair_at};
+ghost use Rattle.av1_mvref.specs.ExtraSearch.{blocks_beside, referred_in, referred, searched, searched_along, to_same, to_others, vectors_to, with_pairs, with_both, pair_at};
 
 use crate::candidate::{CandidateMV, Wanted};
 use crate::edge::{BlockEdge, Direction};
@@ -96,9 +96,9 @@ fn keep_blocks(
     requires few { length same.old.items ≤ 2 }
     requires few_others { length others.old.items ≤ 2 }
     ensures same { let e = edge_of beside blocks.now in
-        same.new.items ≡ fold (kept_same to) same.old.items (blocks_along (at_distance e 1) e.side_of 16 n 0) }
+        same.new.items ≡ fold (kept_same to) same.old.items (blocks_beside e n) }
     ensures others { let e = edge_of beside blocks.now in
-        others.new.items ≡ fold (kept_others sign_bias.now to) others.old.items (blocks_along (at_distance e 1) e.side_of 16 n 0) }
+        others.new.items ≡ fold (kept_others sign_bias.now to) others.old.items (blocks_beside e n) }
     ensures few { length same.new.items ≤ 2 }
     ensures few_others { length others.new.items ≤ 2 }
 {

@@ -4,7 +4,7 @@ ghost use Rattle.std.specs.List.{list_any};
 ghost use Rattle.av1_geometry.specs.PredictionMode.{has_newmv};
 ghost use Rattle.av1_blocks.specs.Grid.{IsInside};
 ghost use Rattle.av1_blocks.specs.Sound.{IsReady};
-ghost use Rattle.av1_mvref.specs.Neighbours.{reach, line, line_after, done_after, done_by, neighbour, edge_of};
+ghost use Rattle.av1_mvref.specs.Neighbours.{reach, line, line_after, done_after, done_by, neighbour, neighbours_after, edge_of};
 ghost use Rattle.av1_mvref.specs.Candidates.{gives, gives_new};
 ghost use Rattle.av1_mvref.specs.Noted.{took, took_all, heaviest};
 
@@ -108,11 +108,11 @@ pub(crate) fn scan_line_after(
     requires few { length stack.old.items ≤ 8 }
     requires light { heaviest stack.old.items + 8000 < 2 ^ 32 }
     ensures items { let e = edge_of beside blocks.now in
-        stack.new.items ≡ took_all wanted stack.old.items (map (neighbour e distance) (line_after e done.old distance)) }
+        stack.new.items ≡ took_all wanted stack.old.items (neighbours_after e done.old distance) }
     ensures found { let e = edge_of beside blocks.now in
-        result ≡ list_any (gives wanted) (map (neighbour e distance) (line_after e done.old distance)) }
+        result ≡ list_any (gives wanted) (neighbours_after e done.old distance) }
     ensures new { let e = edge_of beside blocks.now in
-        new.new ≡ (new.old || list_any (gives_new wanted) (map (neighbour e distance) (line_after e done.old distance))) }
+        new.new ≡ (new.old || list_any (gives_new wanted) (neighbours_after e done.old distance)) }
     ensures lines { let e = edge_of beside blocks.now in
         done.new ≡ done_after e distance done.old (line_after e done.old distance) }
     ensures few { length stack.new.items ≤ 8 }

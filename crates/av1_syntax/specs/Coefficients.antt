@@ -2,7 +2,7 @@
 use Rattle.std.specs.Prelude.{◌≡◌, ℕ, zero, suc, ◌+◌, ◌-◌, ◌*◌, ◌/◌, ◌%◌, ◌^◌, ◌<◌, ◌≤◌, List, [], ◌∷◌, Bool, true, false, if◌then◌else◌, nat_eq}
 use Rattle.std.specs.Prelude.{nat_le, min, map, take, drop, length, slice_index, slice_index_or, codes, ℤ, pos, unsigned_abs, IsTrue, Result}
 use Rattle.std.specs.List.{sum_by}
-use Rattle.av1_blocks.specs.Coefficients.{with_dc_sign, txb_context, entries_above, entries_left}
+use Rattle.av1_blocks.specs.Coefficients.{with_dc_sign}
 use Rattle.av1_blocks.specs.declared.block_context.BlockContext.{BlockContext}
 use Rattle.av1_blocks.specs.declared.coefficients.TXB_CTX.{TXB_CTX}
 use Rattle.av1_cdf.specs.Distribution.{Distribution}
@@ -190,11 +190,6 @@ entry_of levels = with_dc_sign (min 63 (sum_by unsigned_abs levels)) (slice_inde
 pub record HasType (plane : ℕ) (size : TxSize) (mode : PredictionMode) (reduced : Bool) (n : ℕ) (t : TxType) : Type 0 where
   pub none : plane ≡ 0 → n ≡ 0 → t ≡ DCT_DCT
   pub some : plane ≡ 0 → 1 ≤ n → IsTrue (uses (tx_set size (is_inter mode) reduced) t)
-
--- the contexts of a transform block, of which so many columns and rows of samples are inside the frame
-abbrev pub block_contexts : BlockContext → ℕ → BlockOffset → BlockSize → TxSize → ℕ → ℕ → ℕ → ℕ → TXB_CTX
-block_contexts bc plane bo plane_bsize size xdec ydec width height =
-    txb_context plane plane_bsize size (entries_above bc plane bo xdec width) (entries_left bc plane bo ydec height)
 
 -- they went the path of these coefficients, or its beginning, whichever scans the other classes have
 abbrev pub CoeffsCoded : {W U E : Type 0} → Ghosts W → Result U E → ((TxClass → List ℕ) → Element Distribution (TxType × List ℤ)) →
