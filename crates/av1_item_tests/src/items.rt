@@ -1,6 +1,6 @@
 // Items that are taken one by one, each where it can come.
 ghost use Rattle.std.specs.Prelude.{◌≡◌, true, IsTrue, IfOk};
-ghost use Rattle.av1_tile.specs.Items.{Stage, TakesOne, TakesAll, ends_its_own};
+ghost use Rattle.av1_tile.specs.Items.{stage, TakesOne, TakesAll, ends_its_own};
 ghost use Rattle.av1_tile.specs.Marks.{AreMarks};
 ghost use Rattle.av1_step.specs.State.{tile_of};
 
@@ -29,9 +29,8 @@ fn take<W: Writer>(
 ) -> Result<bool, OutOfMemory>
     requires marks { AreMarks W.Known w.old state.old marks.old.items }
     ensures marks { AreMarks W.Known w.new state.new marks.new.items }
-    ensures took { let from : Stage W = record { writer = w.old; tile = state.old; marks = marks.old.items } in
-        let to : Stage W = record { writer = w.new; tile = state.new; marks = marks.new.items } in
-        IfOk result (λ came. IsTrue came → TakesOne W.Known from to item.now) }
+    ensures took { IfOk result (λ came. IsTrue came →
+        TakesOne W.Known (stage w.old state.old marks.old.items) (stage w.new state.new marks.new.items) item.now) }
 {
     law_of_steps();
     if !can_come(state, w.tell(), marks, item) {
@@ -51,9 +50,8 @@ fn take_all<W: Writer>(
 ) -> Result<bool, OutOfMemory>
     requires marks { AreMarks W.Known w.old state.old marks.old.items }
     ensures marks { AreMarks W.Known w.new state.new marks.new.items }
-    ensures took { let from : Stage W = record { writer = w.old; tile = state.old; marks = marks.old.items } in
-        let to : Stage W = record { writer = w.new; tile = state.new; marks = marks.new.items } in
-        IfOk result (λ came. IsTrue came → TakesAll W.Known from to items.now) }
+    ensures took { IfOk result (λ came. IsTrue came →
+        TakesAll W.Known (stage w.old state.old marks.old.items) (stage w.new state.new marks.new.items) items.now) }
 {
     for item in items {
         if !take(alloc, state, w, marks, item)? {

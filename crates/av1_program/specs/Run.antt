@@ -1,6 +1,8 @@
 -- What a run of the program reads and sends.
-use Rattle.std.specs.Prelude.{◌≡◌, ℕ, ◌+◌, ◌^◌, ◌<◌, ◌≤◌, ◌⊎◌, MatchBool, nat_lt, List, [], length, take, string_bytes, Option, Some, None}
+use Rattle.std.specs.Prelude.{◌≡◌, ℕ, ◌+◌, ◌^◌, ◌<◌, ◌≤◌, ◌⊎◌, MatchBool, nat_lt, List, [], length, map, take, String, string_bytes, Option, Some, None}
 use Rattle.av1_bits.specs.Outside.{Rose, Still, Takes, appended}
+use Rattle.av1_bits.specs.declared.outside.Sink.{Ghosts as SinkGhosts}
+use Rattle.av1_bits.specs.declared.outside.Source.{Ghosts as SourceGhosts}
 use Rattle.av1_geometry.specs.declared.error.Rule.{Rule}
 use Rattle.av1_tile.specs.declared.error.Place.{Place}
 use Rattle.av1_tile.specs.declared.error.UnitError.{UnitError}
@@ -10,6 +12,7 @@ use Rattle.av1_unit.specs.Findings.{first_refusal}
 use Rattle.av1_unit.specs.Headline.{IsWritten}
 use Rattle.av1_unit.specs.Plain.{PlainUnit}
 use Rattle.av1_unit.specs.Report.{ReportLists}
+use Rattle.av1_program.specs.declared.run.Output.{Output}
 use Rattle.av1_program.specs.declared.status.Status.{Status}
 use Rattle.av1_program.specs.declared.status.Status.TheVariants.{Sent, Usage, SourceFault, TooLarge, BadText, BadShape}
 use Rattle.av1_program.specs.declared.status.Status.TheVariants.{Refused, BadScript, TooLong, SinkFault, OutOfMemory}
@@ -32,6 +35,9 @@ pub record IsOutput (asked : Option Word) (shape : Shape) (out err : List ℕ) :
   pub written : IsWritten unit bytes report
   pub out_is : out ≡ out_text word bytes report
   pub err_is : err ≡ err_text word report
+
+abbrev pub IsOutputOf : Option Word → Output → Shape → Type 0
+IsOutputOf word output shape = IsOutput word shape output.out.items (string_bytes output.err)
 
 -- it stands for a unit of which P holds
 pub record StandsFor (P : PlainUnit → Type 0) (shape : Shape) : Type 0 where
@@ -70,6 +76,16 @@ Concerns (Some Write) before after P = Reads before after (λ input. P (shape in
 Concerns (Some Raw) before after P = Reads before after (λ input. P (shape input))
 Concerns (Some (Make n)) before after P = (after ≡ before) × P (made n)
 
+-- the same, where this source stood so before and after, of a word or of all words of a run
+abbrev pub AsksBy : {R : Type 0} → SourceGhosts R → Option Word → R → R → (Shape → Type 0) → Type 0
+AsksBy source word old new P = Concerns word (source.left old) (source.left new) P
+
+abbrev pub word_in : {Z : Type 0} → List (String Z) → Option Word
+word_in words = word_of (map string_bytes words)
+
+abbrev pub Asks : {Z R : Type 0} → SourceGhosts R → List (String Z) → R → R → (Shape → Type 0) → Type 0
+Asks source words old new P = AsksBy source (word_in words) old new P
+
 -- an input is asked for
 abbrev pub AsksForInput : Option Word → Type 0
 AsksForInput None = ⊥
@@ -89,27 +105,42 @@ TakesAtMost before after = (k : ℕ) × (k ≤ 2 ^ 26) × Takes k before after
 abbrev pub IsSentFront : Option (List ℕ) → Option (List ℕ) → List ℕ → Type 0
 IsSentFront before after text = (k : ℕ) × (k ≤ length text) × (after ≡ appended before (take k text))
 
--- `out` received what is asked for of this, and so did `err`, or a front of it where its count of faults rose
-pub record Receives (asked : Option Word) (out_before out_after err_before err_after : Option (List ℕ)) (err_still : Type 0) (shape : Shape) : Type 0 where
-  pub out : List ℕ
-  pub err : List ℕ
-  pub is : IsOutput asked shape out err
-  pub out_received : out_after ≡ appended out_before out
-  pub err_received : err_still → err_after ≡ appended err_before err
-  pub err_front : IsSentFront err_before err_after err
+-- a sink didn't fail
+abbrev pub NoFault : {S : Type 0} → SinkGhosts S → S → S → Type 0
+NoFault sink old new = Still (sink.faults old) (sink.faults new)
+
+-- `out` received what is asked for of this, and so did `err`, or a front of it where it failed
+pub record Receives {Z S E : Type 0} (words : List (String Z)) (out : SinkGhosts S) (out_old out_new : S) (err : SinkGhosts E) (err_old err_new : E)
+    (shape : Shape) : Type 0 where
+  pub to_out : List ℕ
+  pub to_err : List ℕ
+  pub is : IsOutput (word_in words) shape to_out to_err
+  pub out_received : out.sent out_new ≡ appended (out.sent out_old) to_out
+  pub err_received : NoFault err err_old err_new → err.sent err_new ≡ appended (err.sent err_old) to_err
+  pub err_front : IsSentFront (err.sent err_old) (err.sent err_new) to_err
 
 -- `out` received a front of it
-pub record ReceivesFront (asked : Option Word) (before after : Option (List ℕ)) (shape : Shape) : Type 0 where
-  pub out : List ℕ
-  pub err : List ℕ
-  pub is : IsOutput asked shape out err
-  pub received : IsSentFront before after out
+pub record ReceivesFront {Z S : Type 0} (words : List (String Z)) (out : SinkGhosts S) (old new : S) (shape : Shape) : Type 0 where
+  pub to_out : List ℕ
+  pub to_err : List ℕ
+  pub is : IsOutput (word_in words) shape to_out to_err
+  pub received : IsSentFront (out.sent old) (out.sent new) to_out
 
 -- A run was asked for an input, and given a source that tells this input and didn't fail.
-pub record IsGiven (words : List (List ℕ)) (input : List ℕ) (before : Option (List ℕ)) (old new : ℕ) : Type 0 where
-  pub word : AsksForInput (word_of words)
-  pub told : before ≡ Some input
-  pub no_fault : Still old new
+pub record IsGiven {Z R : Type 0} (source : SourceGhosts R) (words : List (String Z)) (input : List ℕ) (old new : R) : Type 0 where
+  pub word : AsksForInput (word_in words)
+  pub told : source.left old ≡ Some input
+  pub no_fault : Still (source.faults old) (source.faults new)
+
+-- and the input stands for a valid unit
+pub record IsGivenUnit {Z R : Type 0} (source : SourceGhosts R) (words : List (String Z)) (input : List ℕ) (old new : R) : Type 0 where
+  pub given : IsGiven source words input old new
+  pub allowed : length input ≤ 2 ^ 26
+  pub valid : IsValid (shape input)
+
+-- all was sent, or there was no memory for it
+abbrev pub IsSentIfRoom : Status → Type 0
+IsSentIfRoom status = (status ≡ OutOfMemory) ⊎ (status ≡ Sent)
 
 -- why there is no text of what stands for this, by the status
 abbrev pub IsRefusal : Status → Shape → Type 0
@@ -133,6 +164,9 @@ Explains (BadScript tile item) asked before after old new = Concerns asked befor
 Explains (TooLong place) asked before after old new = Concerns asked before after (IsRefusal (TooLong place))
 Explains OutOfMemory asked before after old new = Unit {0}
 Explains _ asked before after old new = ⊥
+
+abbrev pub Why : {R : Type 0} → SourceGhosts R → Option Word → R → R → Status → Type 0
+Why source word old new status = Explains status word (source.left old) (source.left new) (source.faults old) (source.faults new)
 
 -- the status of a unit by what is wrong with it: where nothing is, all is sent or the sink fails
 abbrev pub IsVerdict : Option UnitError → Status → Type 0

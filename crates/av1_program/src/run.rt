@@ -1,13 +1,12 @@
 // One run of the program.
-ghost use Rattle.std.specs.Prelude.{◌≡◌, ◌^◌, ◌<◌, ◌≤◌, ◌↔◌, ◌⊎◌, ℕ, List, [], IfOk, IfErr, IsSome, None, Some, length, map, string_bytes};
+ghost use Rattle.std.specs.Prelude.{◌≡◌, ◌^◌, ◌<◌, ◌≤◌, ◌↔◌, ◌⊎◌, ℕ, List, [], IfOk, IfErr, IsSome, None, Some, string_bytes};
 ghost use Rattle.av1_bits.specs.Outside.{Rose, Still, appended};
-ghost use Rattle.av1_program.specs.Run.{AsksForInput, Concerns, Explains, HasBadScript, IsTooLong};
-ghost use Rattle.av1_program.specs.Run.{IsAnswer, IsAnswerTo, IsGiven, IsRefusal, IsRefused, IsOutput};
+ghost use Rattle.av1_program.specs.Run.{Asks, AsksBy, AsksForInput, HasBadScript, IsTooLong, IsSentIfRoom, NoFault, Why, word_in};
+ghost use Rattle.av1_program.specs.Run.{IsAnswer, IsAnswerTo, IsGiven, IsGivenUnit, IsRefusal, IsRefused, IsOutputOf};
 ghost use Rattle.av1_program.specs.Run.{IsSentFront, IsValid, Reads, Receives, ReceivesFront, TakesAtMost, TakesMore};
 ghost use Rattle.av1_program.specs.Shape.{Fits, NoReading, Unfit, made, shape};
 ghost use Rattle.av1_program.specs.Status.{HasFixedLine, IsBadShape, line_of};
 ghost use Rattle.av1_program.specs.Text.{err_text, out_text};
-ghost use Rattle.av1_program.specs.Words.{word_of};
 ghost use Rattle.av1_unit.specs.Plain.{plain};
 ghost use Rattle.av1_tile.specs.declared.error.Place.{Place};
 ghost use Rattle.av1_geometry.specs.declared.error.Rule.{Rule};
@@ -57,7 +56,7 @@ fn output_of(
 }
 
 fn output_of_unit(alloc: Global, word: Word, unit: &Unit, via: Via) -> Result<Output, Status>
-    ensures output { IfOk result (λ o. IsOutput (Some word) (Fits (plain unit.now, via)) o.out.items (string_bytes o.err)) }
+    ensures output { IfOk result (λ o. IsOutputOf (Some word) o (Fits (plain unit.now, via))) }
     ensures refused { IfErr result (λ status. IsRefusal status (Fits (plain unit.now, via))) }
 {
     let (bytes, report) = unit_bytes(alloc, unit, via)?;
@@ -65,7 +64,7 @@ fn output_of_unit(alloc: Global, word: Word, unit: &Unit, via: Via) -> Result<Ou
 }
 
 fn output_of_input(alloc: Global, word: Word, input: &[u8]) -> Result<Output, Status>
-    ensures output { IfOk result (λ o. IsOutput (Some word) (shape input.now) o.out.items (string_bytes o.err)) }
+    ensures output { IfOk result (λ o. IsOutputOf (Some word) o (shape input.now)) }
     ensures refused { IfErr result (λ status. IsRefusal status (shape input.now)) }
 {
     let (unit, via) = read_unit(alloc, input)?;
@@ -74,7 +73,7 @@ fn output_of_input(alloc: Global, word: Word, input: &[u8]) -> Result<Output, St
 
 fn output_of_number(alloc: Global, n: u32) -> Result<Output, Status>
     requires { n < 1000000 }
-    ensures output { IfOk result (λ o. IsOutput (Some (Word.Make n)) (made n) o.out.items (string_bytes o.err)) }
+    ensures output { IfOk result (λ o. IsOutputOf (Some (Word.Make n)) o (made n)) }
     ensures refused { IfErr result (λ status. IsRefusal status (made n)) }
 {
     let unit = made_unit(alloc, n)?;
@@ -83,9 +82,8 @@ fn output_of_number(alloc: Global, n: u32) -> Result<Output, Status>
 
 fn output_of_source<R: Source>(alloc: Global, word: Word, source: &mut R) -> Result<Output, Status>
     requires { AsksForInput (Some word) }
-    ensures output { IfOk result (λ o. Concerns (Some word) (R.left source.old) (R.left source.new)
-        (λ s. IsOutput (Some word) s o.out.items (string_bytes o.err))) }
-    ensures why { IfErr result (λ status. Explains status (Some word) (R.left source.old) (R.left source.new) (R.faults source.old) (R.faults source.new)) }
+    ensures output { IfOk result (λ o. AsksBy R.Source (Some word) source.old source.new (IsOutputOf (Some word) o)) }
+    ensures why { IfErr result (Why R.Source (Some word) source.old source.new) }
     ensures taken { (result ≡ Err Status.TooLarge) ⊎ TakesAtMost (R.left source.old) (R.left source.new) }
     ensures count { (result ≡ Err Status.SourceFault) ⊎ (R.faults source.new ≡ R.faults source.old) }
 {
@@ -94,12 +92,10 @@ fn output_of_source<R: Source>(alloc: Global, word: Word, source: &mut R) -> Res
 }
 
 fn make<R: Source>(alloc: Global, words: &[String], source: &mut R) -> Result<Output, Status>
-    ensures output { IfOk result (λ o. Concerns (word_of (map string_bytes words.now)) (R.left source.old) (R.left source.new)
-        (λ s. IsOutput (word_of (map string_bytes words.now)) s o.out.items (string_bytes o.err))) }
-    ensures why { IfErr result (λ status. Explains status (word_of (map string_bytes words.now)) (R.left source.old)
-        (R.left source.new) (R.faults source.old) (R.faults source.new)) }
-    ensures word { (result ≡ Err Status.Usage) ⊎ IsSome (word_of (map string_bytes words.now)) }
-    ensures unread { AsksForInput (word_of (map string_bytes words.now)) ⊎ (source.new ≡ source.old) }
+    ensures output { IfOk result (λ o. Asks R.Source words.now source.old source.new (IsOutputOf (word_in words.now) o)) }
+    ensures why { IfErr result (Why R.Source (word_in words.now) source.old source.new) }
+    ensures word { (result ≡ Err Status.Usage) ⊎ IsSome (word_in words.now) }
+    ensures unread { AsksForInput (word_in words.now) ⊎ (source.new ≡ source.old) }
     ensures taken { (result ≡ Err Status.TooLarge) ⊎ TakesAtMost (R.left source.old) (R.left source.new) }
     ensures count { (result ≡ Err Status.SourceFault) ⊎ (R.faults source.new ≡ R.faults source.old) }
 {
@@ -171,45 +167,38 @@ pub fn run<R: Source, S: Sink, E: Sink>(
     err: &mut E,
 ) -> Status
     // All was sent: what was asked for, of the unit that the whole input stands for, or that the number makes.
-    ensures sent { result ≡ Status.Sent → Concerns (word_of (map string_bytes words.now)) (R.left source.old) (R.left source.new)
-        (Receives (word_of (map string_bytes words.now)) (S.sent out.old) (S.sent out.new) (E.sent err.old) (E.sent err.new)
-        (Still (E.faults err.old) (E.faults err.new))) }
-    ensures silent { result ≡ Status.Sent → (word_of (map string_bytes words.now) ≡ Some Word.Raw) ⊎ (err.new ≡ err.old) }
+    ensures sent { result ≡ Status.Sent →
+        Asks R.Source words.now source.old source.new (Receives words.now S.Sink out.old out.new E.Sink err.old err.new) }
+    ensures silent { result ≡ Status.Sent → (word_in words.now ≡ Some Word.Raw) ⊎ (err.new ≡ err.old) }
 
     // Each other status has its cause.
-    ensures usage { (result ≡ Status.Usage) ↔ (word_of (map string_bytes words.now) ≡ None) }
-    ensures unread { AsksForInput (word_of (map string_bytes words.now)) ⊎ (source.new ≡ source.old) }
+    ensures usage { (result ≡ Status.Usage) ↔ (word_in words.now ≡ None) }
+    ensures unread { AsksForInput (word_in words.now) ⊎ (source.new ≡ source.old) }
     ensures source_fault { result ≡ Status.SourceFault → Rose (R.faults source.old) (R.faults source.new) }
     ensures source_count { (result ≡ Status.SourceFault) ⊎ (R.faults source.new ≡ R.faults source.old) }
     ensures too_large { result ≡ Status.TooLarge → TakesMore (R.left source.old) (R.left source.new) }
     ensures taken { (result ≡ Status.TooLarge) ⊎ TakesAtMost (R.left source.old) (R.left source.new) }
-    ensures bad_text { result ≡ Status.BadText → Concerns (word_of (map string_bytes words.now)) (R.left source.old) (R.left source.new) (λ s. s ≡ NoReading) }
-    ensures bad_shape { (path : List ℕ) → IsBadShape path result →
-        Concerns (word_of (map string_bytes words.now)) (R.left source.old) (R.left source.new) (λ s. s ≡ Unfit path) }
+    ensures bad_text { result ≡ Status.BadText → Asks R.Source words.now source.old source.new (λ s. s ≡ NoReading) }
+    ensures bad_shape { (path : List ℕ) → IsBadShape path result → Asks R.Source words.now source.old source.new (λ s. s ≡ Unfit path) }
     ensures refused { (place : Place) (rule : Rule) → result ≡ Status.Refused place rule →
-        Concerns (word_of (map string_bytes words.now)) (R.left source.old) (R.left source.new) (IsRefused place rule) }
+        Asks R.Source words.now source.old source.new (IsRefused place rule) }
     ensures bad_script { (tile item : ℕ) → result ≡ Status.BadScript tile item →
-        Concerns (word_of (map string_bytes words.now)) (R.left source.old) (R.left source.new) (HasBadScript tile item) }
-    ensures too_long { (place : Place) → result ≡ Status.TooLong place →
-        Concerns (word_of (map string_bytes words.now)) (R.left source.old) (R.left source.new) (IsTooLong place) }
+        Asks R.Source words.now source.old source.new (HasBadScript tile item) }
+    ensures too_long { (place : Place) → result ≡ Status.TooLong place → Asks R.Source words.now source.old source.new (IsTooLong place) }
     ensures sink_fault { result ≡ Status.SinkFault → Rose (S.faults out.old) (S.faults out.new) }
     ensures sink_count { (result ≡ Status.SinkFault) ⊎ (S.faults out.new ≡ S.faults out.old) }
 
     // Where the source tells its input and doesn't fail, the status is that of the input, but for want of memory. That of a number is always its unit's.
-    ensures answer { (input : List ℕ) →
-        IsGiven (map string_bytes words.now) input (R.left source.old) (R.faults source.old) (R.faults source.new) →
+    ensures answer { (input : List ℕ) → IsGiven R.Source words.now input source.old source.new →
         (result ≡ Status.OutOfMemory) ⊎ IsAnswer input result }
-    ensures complete { (input : List ℕ) →
-        IsGiven (map string_bytes words.now) input (R.left source.old) (R.faults source.old) (R.faults source.new) → length input ≤ 2 ^ 26 →
-        IsValid (shape input) → Still (S.faults out.old) (S.faults out.new) → (result ≡ Status.OutOfMemory) ⊎ (result ≡ Status.Sent) }
-    ensures answer_made { (n : ℕ) → word_of (map string_bytes words.now) ≡ Some (Word.Make n) → (result ≡ Status.OutOfMemory) ⊎ IsAnswerTo (made n) result }
-    ensures complete_made { (n : ℕ) → word_of (map string_bytes words.now) ≡ Some (Word.Make n) → IsValid (made n) →
-        Still (S.faults out.old) (S.faults out.new) →
-        (result ≡ Status.OutOfMemory) ⊎ (result ≡ Status.Sent) }
+    ensures complete { (input : List ℕ) → IsGivenUnit R.Source words.now input source.old source.new →
+        NoFault S.Sink out.old out.new → IsSentIfRoom result }
+    ensures answer_made { (n : ℕ) → word_in words.now ≡ Some (Word.Make n) → (result ≡ Status.OutOfMemory) ⊎ IsAnswerTo (made n) result }
+    ensures complete_made { (n : ℕ) → word_in words.now ≡ Some (Word.Make n) → IsValid (made n) → NoFault S.Sink out.old out.new → IsSentIfRoom result }
 
     // What was sent: nothing to `out` but for a unit, and to `err` the line of a status that is another.
-    ensures sink_front { result ≡ Status.SinkFault → Concerns (word_of (map string_bytes words.now)) (R.left source.old) (R.left source.new)
-        (ReceivesFront (word_of (map string_bytes words.now)) (S.sent out.old) (S.sent out.new)) }
+    ensures sink_front { result ≡ Status.SinkFault →
+        Asks R.Source words.now source.old source.new (ReceivesFront words.now S.Sink out.old out.new) }
     ensures unsent { (result ≡ Status.Sent) ⊎ (result ≡ Status.SinkFault) ⊎ (out.new ≡ out.old) }
     ensures told { (result ≡ Status.Sent) ⊎ (Still (E.faults err.old) (E.faults err.new) → E.sent err.new ≡ appended (E.sent err.old) (line_of result)) }
     ensures front { (result ≡ Status.Sent) ⊎ IsSentFront (E.sent err.old) (E.sent err.new) (line_of result) }

@@ -1,10 +1,13 @@
 -- The kinds of step that say how the quantizer and the loop filter differ in the current block: its segment, and its deltas.
 use Rattle.std.specs.Prelude.{◌≡◌, ℕ, ℤ, ◌*◌, ◌&&◌, ◌==◌, List, [], ◌∷◌, Bool, if◌then◌else◌, length, nat_le, nat_lt}
 use Rattle.av1_blocks.specs.Grid.{Grid, block_at}
+use Rattle.av1_cdf.specs.Distribution.{Distribution}
 use Rattle.av1_frame.specs.declared.state.SegmentationState.{SegmentationState}
 use Rattle.av1_geometry.specs.Cfl.{magnitude}
 use Rattle.av1_geometry.specs.ChromaSampling.{planes_of}
 use Rattle.av1_geometry.specs.Rules.{rule}
+use Rattle.av1_geometry.specs.declared.block_offset.BlockOffset.{BlockOffset}
+use Rattle.av1_model.specs.Element.{Element}
 use Rattle.av1_syntax.specs.Deltas.{delta_at, delta_count, deltas_element}
 use Rattle.av1_syntax.specs.Segments.{predicted_segment, segment_element}
 use Rattle.av1_step.specs.declared.step.TileStep.TheVariants.{Segment, DeltaLf}
@@ -25,6 +28,10 @@ are_segments_coded s = s.enabled && s.update_map && nat_le s.last_active_segid 7
 -- the block at the current one's place is skipped
 abbrev pub is_skipped : Tile → CurrentBlock → Bool
 is_skipped t b = (block_at t.bc.blocks (place_of_block b).x (place_of_block b).y).skip
+
+-- the segment of the block at a place
+abbrev pub segment_at : Grid → BlockOffset → ℕ → Element Distribution ℕ
+segment_at g bo last = segment_element g bo (block_at g bo.x bo.y).skip last
 
 -- a segment up to the last one that is used; of a skipped block it is the predicted one
 abbrev pub is_segment : Tile → CurrentBlock → ℕ → Bool

@@ -32,12 +32,16 @@ filter_intra_kind t b =
     of_block b (rule 66 (is_intra t b) ∷ rule 74 (t.given.fi.sequence.enable_filter_intra && is_dc m && has_short_sides size) ∷ [])
     (λ on. rule 74 (not on) ∷ []) (filter_intra_element size) (λ on. []) FilterIntra
 
+-- whether palettes may be asked for a block: its chroma mode is entered, where it has chroma
+abbrev pub may_have_palette : Tile → CurrentBlock → Bool
+may_have_palette t b =
+    not (t.given.fi.allow_screen_content_tools == 0) && nat_le 3 (number_of (size_of_block b)) && (is_some t.uv || not (has_chroma t b))
+
 -- that the current block has no palette
 abbrev pub palette_kind : Tile → CurrentBlock → Kind Bool
 palette_kind t b =
     let size = size_of_block b in
     let m = mode_at t b in
     of_block b
-    (rule 66 (is_intra t b) ∷ rule 75 (not (t.given.fi.allow_screen_content_tools == 0) && nat_le 3 (number_of size) &&
-    (is_some t.uv || not (has_chroma t b))) ∷ []) (λ on. rule 75 (not on) ∷ [])
+    (rule 66 (is_intra t b) ∷ rule 75 (may_have_palette t b) ∷ []) (λ on. rule 75 (not on) ∷ [])
     (palette_element (is_dc m) (has_chroma t b && option_map_or is_dc t.uv false) size) (λ on. []) Palette

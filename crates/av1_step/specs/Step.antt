@@ -2,6 +2,7 @@
 use Rattle.std.specs.Prelude.{Option, ℕ, ℤ, ◌^◌, option_map, ◌%◌, ◌&&◌, ◌==◌, List, [], ◌∷◌, Bool}
 use Rattle.std.specs.Prelude.{true, false, Some, None, nat_le, nat_lt, if◌then◌else◌, zero, suc}
 use Rattle.std.specs.Option.{option_map_or}
+use Rattle.av1_blocks.specs.Grid.{Grid}
 use Rattle.av1_cdf.specs.Distribution.{Distribution}
 use Rattle.av1_geometry.specs.Rules.{Check, first_broken, rule}
 use Rattle.av1_geometry.specs.declared.block_offset.BlockOffset.{BlockOffset}
@@ -73,14 +74,17 @@ is_split_on size p = (partition_number p == 3) && nat_lt 3 (width_log2 size)
 abbrev pub parted : BlockOffset → BlockSize → PartitionType → List Effect
 parted bo size p = if is_split_on size p then [] else option_map_or (λ subsize. Parted bo size subsize ∷ []) (subsize_of size p) []
 
+-- where its second half begins outside the tile, it has to be parted there
+abbrev pub may_be_parted : Grid → BlockOffset → BlockSize → PartitionType → Bool
+may_be_parted g bo size p = is_allowed (has_cols g bo size) (has_rows g bo size) size p
+
 -- how a block is parted
 abbrev pub partition_kind : BlockOffset → BlockSize → Tile → Kind PartitionType
 partition_kind bo size t =
-    let g = t.bc.blocks in
     record {
       place = Some bo;
       asking = inside bo t ∷ rule 62 (is_parted_size size && is_aligned bo size) ∷ [];
-      answering = λ p. rule 63 (is_allowed (has_cols g bo size) (has_rows g bo size) size p) ∷ [];
+      answering = λ p. rule 63 (may_be_parted t.bc.blocks bo size p) ∷ [];
       element = partition_element t.numbers t.bc bo size;
       effects = parted bo size;
       step = λ p. Partition bo.x bo.y size p;

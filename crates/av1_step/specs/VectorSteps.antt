@@ -2,7 +2,7 @@
 use Rattle.std.specs.Prelude.{ℕ, ◌%◌, ◌&&◌, ◌||◌, ◌==◌, List, [], ◌∷◌, Bool, not, Some, int_lt, is_some, nat_le, slice_set, if◌then◌else◌}
 use Rattle.av1_frame.specs.declared.frame.FrameInvariants.{FrameInvariants}
 use Rattle.av1_geometry.specs.Cfl.{magnitude}
-use Rattle.av1_geometry.specs.Rules.{rule}
+use Rattle.av1_geometry.specs.Rules.{Check, rule}
 use Rattle.av1_geometry.specs.declared.constants.TheConstants.{MV_LOW, MV_UPP}
 use Rattle.av1_geometry.specs.declared.motion_vector.MotionVector.{MotionVector}
 use Rattle.av1_geometry.specs.declared.motion_vector.MvSubpelPrecision.{MvSubpelPrecision}
@@ -70,6 +70,10 @@ is_whole p d = (magnitude d.row % unit_of p == 0) && (magnitude d.col % unit_of 
 abbrev pub with_vector : ℕ → Tile → CurrentBlock → MotionVector → List MotionVector
 with_vector list t b mv = slice_set (grid_block t b).mv list mv
 
+-- the rules of a vector, by its reference vector
+abbrev pub vector_rules : MvSubpelPrecision → MotionVector → MotionVector → List Check
+vector_rules p ref mv = rule 81 (is_valid mv && is_small (difference mv ref)) ∷ rule 82 (is_whole p (difference mv ref)) ∷ []
+
 -- the vector of a list
 abbrev pub mv_kind : ℕ → Tile → CurrentBlock → Kind MotionVector
 mv_kind list t b =
@@ -77,5 +81,5 @@ mv_kind list t b =
     let p = precision_of t.given.fi in
     of_block b
     (rule 65 (not t.given.fi.intra_only) ∷ rule 66 (not (is_intra t b)) ∷ rule 81 (is_some t.cands && is_coded_list list (mode_at t b)) ∷ [])
-    (λ mv. rule 81 (is_valid mv && is_small (difference mv ref)) ∷ rule 82 (is_whole p (difference mv ref)) ∷ []) (vector_element ref p)
+    (vector_rules p ref) (vector_element ref p)
     (λ mv. Over (place_of_block b) (size_of_block b) (λ x. record x { mv = with_vector list t b mv }) ∷ []) (Mv list)

@@ -1,7 +1,7 @@
 // The steps that begin rows and blocks, part blocks and skip them.
 ghost use Rattle.std.specs.Prelude.{◌≡◌, ◌^◌, ◌<◌, ◌≤◌, None};
 ghost use Rattle.av1_geometry.specs.BlockSize.{width_log2, height_log2};
-ghost use Rattle.av1_step.specs.Step.{is_parted_size, is_split_on};
+ghost use Rattle.av1_step.specs.Step.{is_parted_size, is_split_on, may_be_parted};
 ghost use Rattle.av1_step.specs.Tile.{new_block};
 
 use crate::tile::TileState;
@@ -14,7 +14,6 @@ use av1_geometry::{
 impl<'u> TileState<'u> {
     ghost use Rattle.av1_geometry.specs.declared.block_offset.BlockOffset.{BlockOffset};
     ghost use Rattle.av1_geometry.specs.Rules.{first_broken};
-    ghost use Rattle.av1_syntax.specs.Partition.{has_cols, has_rows, is_allowed};
     ghost use Rattle.av1_step.specs.declared.step.TileStep.TheVariants.{RowStart, Block as BlockStep, Partition, Skip};
     ghost use Rattle.av1_step.specs.State.{tile_of, log_of};
     ghost use Rattle.av1_step.specs.Step.{entered, is_coded_size, rules};
@@ -95,8 +94,7 @@ impl<'u> TileState<'u> {
     fn is_allowed(&self, x: usize, y: usize, size: BlockSize, p: PartitionType) -> bool
         requires inside { (x < (tile_of self.now).bc.blocks.cols) × (y < (tile_of self.now).bc.blocks.rows) }
         requires square { width_log2 size ≡ height_log2 size }
-        ensures { let bo : BlockOffset = record { x = x; y = y } in let g = (tile_of self.now).bc.blocks in
-            result ≡ is_allowed (has_cols g bo size) (has_rows g bo size) size p }
+        ensures { result ≡ may_be_parted (tile_of self.now).bc.blocks (record { x = x; y = y }) size p }
     {
         let half = size.width_mi() / 2;
         let has_cols = x + half < self.cw.bc.blocks.cols();

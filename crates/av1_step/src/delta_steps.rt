@@ -5,8 +5,8 @@ ghost use Rattle.av1_cdf.specs.Context.{AreCdfs};
 ghost use Rattle.av1_geometry.specs.Cfl.{magnitude};
 ghost use Rattle.av1_syntax.specs.Calls.{Coded, Moved};
 ghost use Rattle.av1_syntax.specs.Deltas.{delta_count, deltas_element, AreDeltas};
-ghost use Rattle.av1_syntax.specs.Segments.{segment_element, IsSegment};
-ghost use Rattle.av1_step.specs.DeltaSteps.{IsWhole, are_deltas, are_segments_coded, block_deltas, is_segment};
+ghost use Rattle.av1_syntax.specs.Segments.{IsSegment};
+ghost use Rattle.av1_step.specs.DeltaSteps.{IsWhole, are_deltas, are_segments_coded, block_deltas, is_segment, segment_at};
 
 use crate::tile::TileState;
 use av1_ec::Writer;
@@ -132,8 +132,7 @@ fn code_segment<W: Writer>(
     requires segment { let g = cw.old.bc.blocks in IsSegment g bo.0 (block_at g bo.0.x bo.0.y).skip last segment }
     requires cdfs { AreCdfs cw.old.fc }
     requires early { (W.position w.old).shift ≤ 2 ^ 28 }
-    ensures wrote { let g = cw.old.bc.blocks in
-        Coded W.Known result (segment_element g bo.0 (block_at g bo.0.x bo.0.y).skip last) segment w.old w.new cw.old cw.new }
+    ensures wrote { Coded W.Known result (segment_at cw.old.bc.blocks bo.0 last) segment w.old w.new cw.old cw.new }
     ensures moves { Moved W.Known 13 w.old w.new cw.old cw.new }
     ensures rest { cw.new.bc ≡ cw.old.bc }
 {

@@ -1,9 +1,8 @@
 // The steps of the current block for filters, segments and palettes.
-ghost use Rattle.std.specs.Prelude.{◌≡◌, ◌^◌, ◌≤◌, ◌==◌, ◌&&◌, ◌||◌, not, is_some, nat_le, nat_lt, true, false, Some, None};
-ghost use Rattle.av1_geometry.specs.BlockSize.{number_of};
+ghost use Rattle.std.specs.Prelude.{◌≡◌, ◌^◌, ◌≤◌, ◌==◌, ◌&&◌, ◌||◌, not, is_some, nat_lt, true, false, Some, None};
 ghost use Rattle.std.specs.Option.{option_map_or};
 ghost use Rattle.av1_syntax.specs.Palette.{is_dc};
-ghost use Rattle.av1_step.specs.FilterSteps.{has_short_sides};
+ghost use Rattle.av1_step.specs.FilterSteps.{has_short_sides, may_have_palette};
 ghost use Rattle.av1_step.specs.IntraSteps.{has_chroma};
 
 use crate::tile::TileState;
@@ -103,8 +102,7 @@ impl<'u> TileState<'u> {
 
     // Whether palettes may be asked for a block.
     fn may_have_palette(&self, b: (TileBlockOffset, BlockSize)) -> bool
-        ensures { let t = tile_of self.now in
-            result ≡ (not (t.given.fi.allow_screen_content_tools == 0) && nat_le 3 (number_of b.1) && (is_some t.uv || not (has_chroma t b))) }
+        ensures { result ≡ may_have_palette (tile_of self.now) b }
     {
         self.unit.fi.allow_screen_content_tools != 0 && b.1.number() >= 3 && self.has_modes(b)
     }

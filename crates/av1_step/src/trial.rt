@@ -1,6 +1,6 @@
 // What a trial that has begun keeps.
 ghost use Rattle.std.specs.Prelude.{◌≡◌, ◌≤◌, true, IfOk};
-ghost use Rattle.av1_cdf.specs.Log.{IsReached as HasSaves, IsWithin, stored, undone};
+ghost use Rattle.av1_cdf.specs.Log.{IsReached as HasSaves, IsWithin, stored};
 ghost use Rattle.av1_cdf.specs.Context.{AreCdfs};
 ghost use Rattle.av1_step.specs.Mark.{IsMarkOf, WentBack};
 ghost use Rattle.av1_step.specs.Kept.{IsKept};
@@ -54,7 +54,7 @@ impl<'u> TileState<'u> {
     ghost use Rattle.av1_cdf.specs.declared.log.CDFContextCheckpoint.{CDFContextCheckpoint};
     ghost use Rattle.av1_ec.specs.declared.storage.WriterCheckpoint.{WriterCheckpoint};
     ghost use Rattle.av1_step.specs.Mark.{back_to, IsOfTile};
-    ghost use Rattle.av1_step.specs.State.{tile_of, log_of};
+    ghost use Rattle.av1_step.specs.State.{tile_of, log_of, numbers_at};
     ghost use Rattle.av1_step.specs.Tile.{is_inside};
 
     /// What a trial keeps that begins now, at a place inside the tile.
@@ -94,8 +94,7 @@ impl<'u> TileState<'u> {
         ensures tile { tile_of self.new ≡ back_to mark.now (log_of self.old) (tile_of self.old) }
         ensures writer { WentBack W.Known mark.now w.old w.new }
         ensures saves { (c : CDFContextCheckpoint) → IsWithin c mark.now.context.fc → HasSaves (log_of self.new) c }
-        ensures undone { (c : CDFContextCheckpoint) → IsWithin c mark.now.context.fc →
-            undone (log_of self.new) (tile_of self.new).numbers c ≡ undone (log_of self.old) (tile_of self.old).numbers c }
+        ensures undone { (c : CDFContextCheckpoint) → IsWithin c mark.now.context.fc → numbers_at self.new c ≡ numbers_at self.old c }
     {
         w.rollback(&mark.writer);
         self.cw.rollback(&mark.context);

@@ -1,10 +1,10 @@
 // The steps of the vectors of inter blocks: their candidates, and the vectors that are coded.
-ghost use Rattle.std.specs.Prelude.{◌≡◌, ◌&&◌, ◌%◌, ◌==◌, ◌^◌, ◌≤◌, ◌-ℤ◌, [], ◌∷◌, is_some, nat_le, Some, None};
+ghost use Rattle.std.specs.Prelude.{◌≡◌, ◌&&◌, ◌%◌, ◌==◌, ◌^◌, ◌≤◌, ◌-ℤ◌, is_some, Some, None};
 ghost use Rattle.av1_geometry.specs.Cfl.{magnitude};
 ghost use Rattle.av1_syntax.specs.InterModes.{is_among};
 ghost use Rattle.av1_syntax.specs.Vectors.{difference, unit_of};
 ghost use Rattle.av1_step.specs.IntraSteps.{mode_at};
-ghost use Rattle.av1_step.specs.VectorSteps.{codes_first, codes_second, is_coded_list, is_small, is_valid, is_whole, precision_of, reference_vector};
+ghost use Rattle.av1_step.specs.VectorSteps.{codes_first, codes_second, is_coded_list, is_small, is_valid, is_whole, precision_of, reference_vector, vector_rules};
 
 use crate::tile::TileState;
 use arrayvec::ArrayVec;
@@ -17,7 +17,7 @@ use av1_geometry::{
 const MOST: u32 = 16384;
 
 impl<'u> TileState<'u> {
-    ghost use Rattle.av1_geometry.specs.Rules.{first_broken, rule};
+    ghost use Rattle.av1_geometry.specs.Rules.{first_broken};
     ghost use Rattle.av1_step.specs.declared.step.TileStep.TheVariants.{MvRefs, Mv};
     ghost use Rattle.av1_step.specs.State.{tile_of, log_of};
     ghost use Rattle.av1_step.specs.Step.{entered, rules};
@@ -97,8 +97,7 @@ impl<'u> TileState<'u> {
 
     // The first rule that a vector of a list that is coded breaks.
     fn check_vector(&self, list: usize, mv: MotionVector) -> Option<Rule>
-        ensures { let t = tile_of self.now in let d = difference mv (reference_vector list t) in
-            result ≡ first_broken (rule 81 (is_valid mv && is_small d) ∷ rule 82 (is_whole (precision_of t.given.fi) d) ∷ []) }
+        ensures { let t = tile_of self.now in result ≡ first_broken (vector_rules (precision_of t.given.fi) (reference_vector list t) mv) }
     {
         let ref_mv = self.reference_vector(list);
         if !(is_valid(mv) && is_near(mv, ref_mv)) {

@@ -1,11 +1,13 @@
 -- What every write call says: which way the writer and the context went, and what they keep.
-use Rattle.std.specs.Prelude.{◌≡◌, ℕ, ◌+◌, ◌≤◌, List, Bool, false, Result}
+use Rattle.std.specs.Prelude.{◌≡◌, ℕ, ◌+◌, ◌≤◌, List, Bool, false, Result, take}
 use Rattle.av1_cdf.specs.Context.{AreCdfs}
 use Rattle.av1_cdf.specs.Distribution.{Distribution, coded_by, learnt}
 use Rattle.av1_cdf.specs.Distribution.Distribution.{Adaptive}
 use Rattle.av1_cdf.specs.Layout.{slot}
-use Rattle.av1_cdf.specs.Log.{KeepsUndone, saves_of}
+use Rattle.av1_cdf.specs.Log.{KeepsUndone, saves_of, small_saves, large_saves}
+use Rattle.av1_cdf.specs.declared.log.CDFContextCheckpoint.{CDFContextCheckpoint}
 use Rattle.av1_cdf.specs.declared.log.CDFContextLog.{CDFContextLog}
+use Rattle.av1_cdf.specs.declared.part.Save.{Save}
 use Rattle.av1_ec.specs.Storing.{Keeps}
 use Rattle.av1_ec.specs.declared.known.Known.{Ghosts}
 use Rattle.av1_model.specs.Comes.{Standing, standing, Wrote}
@@ -50,6 +52,10 @@ pub record Moving {W : Type 0} (known : Ghosts W) (most : ℕ) (w u : W) (old_lo
 
 abbrev pub Moved : {W : Type 0} → Ghosts W → ℕ → W → W → ContextWriter → ContextWriter → Type 0
 Moved known most w u old new = Moving known most w u old.fc_log new.fc_log (context_of old) (context_of new)
+
+-- the saves of a log up to a checkpoint
+abbrev pub saves_before : CDFContextLog → CDFContextCheckpoint → List (Save 4) × List (Save 16)
+saves_before log c = (take c.small (small_saves log), take c.large (large_saves log))
 
 -- the distribution of a field of the context, at these indices
 abbrev pub adaptive : List ℕ → List ℕ → Distribution

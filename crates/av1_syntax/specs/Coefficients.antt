@@ -6,7 +6,8 @@ use Rattle.av1_blocks.specs.Coefficients.{with_dc_sign}
 use Rattle.av1_blocks.specs.declared.block_context.BlockContext.{BlockContext}
 use Rattle.av1_blocks.specs.declared.coefficients.TXB_CTX.{TXB_CTX}
 use Rattle.av1_cdf.specs.Distribution.{Distribution}
-use Rattle.av1_cdf.specs.Layout.{slot}
+use Rattle.av1_cdf.specs.Distribution.Distribution.{Adaptive}
+use Rattle.av1_cdf.specs.Layout.{Slot, slot}
 use Rattle.av1_coef.specs.Causal.{AreCausal}
 use Rattle.av1_coef.specs.Contexts.{base_context, range_context, last_context, size_context, coded_width, coded_height, coded_area}
 use Rattle.av1_coef.specs.Padded.{level_in, in_block, IsPadded}
@@ -27,6 +28,7 @@ use Rattle.av1_syntax.specs.Calls.{adaptive, Coded}
 use Rattle.av1_syntax.specs.EndOfBlock.{end_element}
 use Rattle.av1_syntax.specs.Flags.{flag}
 use Rattle.av1_syntax.specs.Levels.{coeff_size_element, least, sizes_after, levels_after, cut_level, sign_by}
+use Rattle.av1_syntax.specs.declared.coefficients.CoeffBlock.{CoeffBlock}
 use Rattle.av1_syntax.specs.declared.context_writer.ContextWriter.{ContextWriter}
 use Rattle.av1_syntax.specs.TransformTypes.{tx_type_element}
 
@@ -186,6 +188,9 @@ pub record AreContexts (size : TxSize) (class : TxClass) (levels scan : List ℕ
 abbrev pub entry_of : List ℤ → ℕ
 entry_of levels = with_dc_sign (min 63 (sum_by unsigned_abs levels)) (slice_index_or levels 0 (pos 0))
 
+abbrev pub entry_at : List ℤ → List ℕ → ℕ → ℕ
+entry_at values scan n = entry_of (levels_at values scan n)
+
 -- the type of a transform: DCT where luma has no levels, and else, in luma, one of its set
 pub record HasType (plane : ℕ) (size : TxSize) (mode : PredictionMode) (reduced : Bool) (n : ℕ) (t : TxType) : Type 0 where
   pub none : plane ≡ 0 → n ≡ 0 → t ≡ DCT_DCT
@@ -196,3 +201,31 @@ abbrev pub CoeffsCoded : {W U E : Type 0} → Ghosts W → Result U E → ((TxCl
     TxType → List ℕ → List ℤ → W → W → ContextWriter → ContextWriter → Type 0
 CoeffsCoded known r element t scan levels w u old new =
     (scans : TxClass → List ℕ) → scans (class_of t) ≡ scan → Coded known r (element scans) (t, levels) w u old new
+
+-- What the calls of a transform block code, by what they know of it: the end, the size at a position, up to 15, by padded levels, the
+-- one at place c of a scan, those at its first n places, the levels of known sizes, and all three in turn.
+abbrev pub end_in : Bool → CoeffBlock → Element Distribution ℕ
+end_in by_coded b = end_element by_coded b.tx_size b.plane_type (one_dimensional b.tx_class)
+
+abbrev pub SizeByCoded : {W U E : Type 0} → Ghosts W → Result U E → CoeffBlock → Slot → List ℕ → ℕ → Bool → ℕ → W → W → ContextWriter → ContextWriter → Type 0
+SizeByCoded known r b base levels at is_last size w u old new =
+    let range = range_by b.tx_size b.plane_type b.tx_class levels at in
+    Coded known r (coeff_size_element (Adaptive base) range (if is_last then 1 else 0)) (min size 15) w u old new
+
+abbrev pub SizeCoded : {W U E : Type 0} → Ghosts W → Result U E → CoeffBlock → List ℤ → List ℕ → ℕ → ℕ → W → W → ContextWriter → ContextWriter → Type 0
+SizeCoded known r b values scan n c w u old new =
+    let element = size_after b.tx_size b.plane_type b.tx_class scan c (sizes_from values scan n (c + 1)) in
+    Coded known r element (size_at values scan c) w u old new
+
+abbrev pub SizesCoded : {W U E : Type 0} → Ghosts W → Result U E → CoeffBlock → List ℤ → List ℕ → ℕ → W → W → ContextWriter → ContextWriter → Type 0
+SizesCoded known r b values scan n w u old new =
+    Coded known r (sizes_element b.tx_size b.plane_type b.tx_class scan n) (sizes_from values scan n 0) w u old new
+
+abbrev pub SignsCoded : {W U E : Type 0} → Ghosts W → Result U E → CoeffBlock → ℕ → List ℤ → List ℕ → ℕ → W → W → ContextWriter → ContextWriter → Type 0
+SignsCoded known r b context values scan n w u old new =
+    Coded known r (signs_element b.plane_type context (sizes_from values scan n 0)) (levels_at values scan n) w u old new
+
+abbrev pub BlockCoded : {W U E : Type 0} → Ghosts W → Result U E → CoeffBlock → ℕ → List ℤ → List ℕ → ℕ → W → W → ContextWriter → ContextWriter → Type 0
+BlockCoded known r b context values scan n w u old new =
+    let levels = block_element old.eob_by_coded b.tx_size b.plane_type context b.tx_class scan in
+    Coded known r levels (levels_at values scan n) w u old new

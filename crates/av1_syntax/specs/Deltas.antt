@@ -1,11 +1,15 @@
 -- What a block adds to the levels of the loop filter.
 use Rattle.std.specs.Prelude.{◌≡◌, ℕ, zero, suc, ◌+◌, ◌-◌, ◌^◌, ◌<◌, ◌≤◌, List, [], ◌∷◌, ◌++◌, min, nat_eq, nat_lt, Bool}
-use Rattle.std.specs.Prelude.{if◌then◌else◌, Option, Some, None, codes, length, map, replicate, slice_index_or, sum, ℤ, pos, negsuc, ◌-ℤ◌}
+use Rattle.std.specs.Prelude.{if◌then◌else◌, Option, Some, None, codes, length, map, replicate, slice_index_or, sum, ℤ, pos, negsuc, ◌-ℤ◌, Result}
+use Rattle.av1_blocks.specs.Grid.{Grid, block_at}
 use Rattle.av1_cdf.specs.Distribution.{Distribution, Even}
+use Rattle.av1_ec.specs.declared.known.Known.{Ghosts}
 use Rattle.av1_geometry.specs.Cfl.{magnitude}
+use Rattle.av1_geometry.specs.declared.block_offset.BlockOffset.{BlockOffset}
 use Rattle.av1_model.specs.Element.{Element, known, ask, symbol, choose, after, renamed, nothing}
-use Rattle.av1_syntax.specs.Calls.{adaptive}
+use Rattle.av1_syntax.specs.Calls.{adaptive, Coded}
 use Rattle.av1_syntax.specs.Literals.{literal}
+use Rattle.av1_syntax.specs.declared.context_writer.ContextWriter.{ContextWriter}
 
 -- how many of these powers of two a size is above: delta_lf_rem_bits of the AV1 specification
 abbrev pub rem_bits : ℕ → ℕ
@@ -61,6 +65,11 @@ delta_count multi planes = if multi then planes + 1 else 1
 
 abbrev pub deltas_element : Bool → ℕ → Element Distribution (List ℤ)
 deltas_element multi planes = deltas_after (delta_slot multi) [] (delta_count multi planes)
+
+-- they went the path of the deltas of a block, or its beginning
+abbrev pub DeltasCoded : {W U E : Type 0} → Ghosts W → Result U E → Grid → BlockOffset → Bool → ℕ → W → W → ContextWriter → ContextWriter → Type 0
+DeltasCoded known r g bo multi planes w u old new =
+    Coded known r (deltas_element multi planes) (block_at g bo.x bo.y).deblock_deltas w u old new
 
 -- the sizes are at most so great, and past the count all are zero
 pub record AreDeltas (most count : ℕ) (ds : List ℤ) : Type 0 where

@@ -51,8 +51,15 @@ abbrev pub factors_element : Element Distribution (ℤ × ℤ)
 factors_element = after signs_element sizes_element (λ f. (sign_of f.0, sign_of f.1))
 
 -- the factors of signs and sizes
+abbrev pub factor_at : CFLParams → ℕ → ℤ
+factor_at cfl uv = signed (sign_at cfl uv) (scale_at cfl uv)
+
 abbrev pub factors_of : CFLParams → ℤ × ℤ
-factors_of cfl = (signed (sign_at cfl 0) (scale_at cfl 0), signed (sign_at cfl 1) (scale_at cfl 1))
+factors_of cfl = (factor_at cfl 0, factor_at cfl 1)
+
+-- the factor of one plane, where both signs are known
+abbrev pub factor_where : CFLParams → ℕ → Element Distribution ℤ
+factor_where cfl uv = factor_element (sign_at cfl uv) (sign_at cfl (1 - uv))
 
 -- factors from -16 to 16, of which one is not zero
 pub record AreFactors (f : ℤ × ℤ) : Type 0 where

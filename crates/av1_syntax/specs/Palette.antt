@@ -1,6 +1,9 @@
 -- Palettes, of which a block has none.
-use Rattle.std.specs.Prelude.{ℕ, zero, suc, ◌+◌, ◌-◌, [], ◌∷◌, nat_eq, Bool, false, Option, Some, None, codes}
+use Rattle.std.specs.Prelude.{ℕ, zero, suc, ◌+◌, ◌-◌, [], ◌∷◌, nat_eq, Bool, false, ◌&&◌, Option, Some, None, codes}
+use Rattle.av1_geometry.specs.Chroma.{has_chroma_at}
+use Rattle.av1_geometry.specs.declared.block_offset.BlockOffset.{BlockOffset}
 use Rattle.av1_geometry.specs.declared.block_size.BlockSize.{BlockSize}
+use Rattle.av1_geometry.specs.declared.chroma_sampling.ChromaSampling.{ChromaSampling}
 use Rattle.av1_geometry.specs.BlockSize.{width_log2, height_log2}
 use Rattle.av1_geometry.specs.PredictionMode.{prediction_mode_number}
 use Rattle.av1_geometry.specs.declared.prediction_mode.PredictionMode.{PredictionMode}
@@ -31,3 +34,8 @@ abbrev pub palette_element : Bool → Bool → BlockSize → Element Distributio
 palette_element luma chroma size =
     after (off_where luma (adaptive (codes "palette_y_mode_cdfs") (palette_size size ∷ 0 ∷ [])))
     (λ y. off_where chroma (adaptive (codes "palette_uv_mode_cdfs") (0 ∷ []))) (λ on. on)
+
+-- the same of a block at a place, of chroma only where it has chroma
+abbrev pub palette_at : BlockOffset → BlockSize → PredictionMode → PredictionMode → ℕ → ℕ → ChromaSampling → Element Distribution Bool
+palette_at bo size luma chroma xdec ydec sampling =
+    palette_element (is_dc luma) (has_chroma_at bo.x bo.y size xdec ydec sampling && is_dc chroma) size

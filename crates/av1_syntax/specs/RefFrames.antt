@@ -1,11 +1,12 @@
 -- What a block refers to: one of seven frames, or one behind and one ahead in display order.
 use Rattle.std.specs.Prelude.{◌≡◌, ℕ, zero, suc, ◌+◌, ◌≤◌, [], ◌∷◌, min, Bool, true, false, not}
-use Rattle.std.specs.Prelude.{◌&&◌, nat_eq, nat_le, Option, Some, None, codes, slice_index_or}
+use Rattle.std.specs.Prelude.{◌&&◌, nat_eq, nat_le, Option, Some, None, codes, slice_index_or, Result}
 use Rattle.av1_blocks.specs.declared.block.Block.{Block}
 use Rattle.av1_blocks.specs.declared.block_context.BlockContext.{BlockContext}
 use Rattle.av1_blocks.specs.Grid.{Grid, IsFrame, block_at, over}
 use Rattle.av1_cdf.specs.Distribution.{Distribution}
 use Rattle.av1_cdf.specs.Layout.{Slot, slot}
+use Rattle.av1_ec.specs.declared.known.Known.{Ghosts}
 use Rattle.av1_geometry.specs.declared.block_offset.BlockOffset.{BlockOffset}
 use Rattle.av1_geometry.specs.declared.block_size.BlockSize.TheVariants.{BLOCK_4X4}
 use Rattle.av1_geometry.specs.declared.frame_type.ReferenceMode.{ReferenceMode}
@@ -16,8 +17,9 @@ use Rattle.av1_geometry.specs.FrameType.{reference_mode_number}
 use Rattle.av1_geometry.specs.RefType.{reference_number}
 use Rattle.av1_model.specs.Element.{Element, known, symbol, choose, after, renamed}
 use Rattle.av1_mvref.specs.References.{count_of, counts, by_counts, comp_mode_context, comp_ref_type_context, refs_above, refs_left}
+use Rattle.av1_syntax.specs.declared.context_writer.ContextWriter.{ContextWriter}
 use Rattle.av1_syntax.specs.declared.ref_frames.RefContexts.{RefContexts}
-use Rattle.av1_syntax.specs.Calls.{adaptive}
+use Rattle.av1_syntax.specs.Calls.{adaptive, Coded}
 use Rattle.av1_syntax.specs.Decisions.{decide}
 use Rattle.av1_syntax.specs.Flags.{flag_number}
 
@@ -127,6 +129,10 @@ refs_of b = (slice_index_or b.ref_frames 0 NONE_FRAME, slice_index_or b.ref_fram
 -- the references of the block at a place
 abbrev pub ref_frames_at : Grid → BlockOffset → RefType × RefType
 ref_frames_at g bo = refs_of (block_at g bo.x bo.y)
+
+-- they went the path of the references of a block, or its beginning
+abbrev pub RefFramesCoded : {W U E : Type 0} → Ghosts W → Result U E → Grid → BlockOffset → ReferenceMode → W → W → ContextWriter → ContextWriter → Type 0
+RefFramesCoded known r g bo mode w u old new = Coded known r (ref_frames_element g bo mode) (ref_frames_at g bo) w u old new
 
 -- how often the blocks above and to the left refer to each reference is noted in the block at a place
 abbrev pub with_counts : BlockOffset → BlockContext → BlockContext

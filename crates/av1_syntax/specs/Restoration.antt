@@ -1,6 +1,7 @@
 -- The filters of loop restoration.
 use Rattle.std.specs.Prelude.{◌≡◌, ℕ, zero, suc, ◌+◌, ◌-◌, ◌*◌, ◌<◌, List, [], ◌∷◌, Bool, false, not, ◌||◌, if◌then◌else◌, min}
 use Rattle.std.specs.Prelude.{nat_eq, codes, drop, length, slice_get, slice_index, slice_index_or, ℤ, pos, ◌+ℤ◌, ◌≤ℤ◌, ◌⊎◌}
+use Rattle.av1_cdf.specs.Context.{contents}
 use Rattle.av1_cdf.specs.Distribution.{Distribution, Even}
 use Rattle.av1_cdf.specs.Distribution.Distribution.{Adaptive}
 use Rattle.av1_cdf.specs.Layout.{Slot, slot}
@@ -198,3 +199,8 @@ flat_bits plane f = flat_bits_by plane.sgrproj_ref f
 -- in eighths of a bit, a symbol by these numbers and so many bits
 abbrev pub IsCost : Interval → List ℕ → ℕ → ℕ → ℕ → Type 0
 IsCost i cdf s bits cost = eighths i + cost ≡ eighths (narrow i (token_of cdf s)) + 8 * bits
+
+-- what the filter of a unit takes after these, where the kinds of filters are switched
+abbrev pub IsFilterCost : Interval → List ℕ → RestorationPlane → RestorationFilter → ℕ → Type 0
+IsFilterCost i numbers plane filter cost =
+    IsCost i (contents numbers (slot (codes "lrf_switchable_cdf") [])) (kind_of filter) (flat_bits plane filter) cost

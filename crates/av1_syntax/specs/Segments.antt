@@ -1,13 +1,15 @@
 -- The segments of blocks, which are coded by their distance from a prediction.
 use Rattle.std.specs.Prelude.{ℕ, ◌+◌, ◌-◌, ◌*◌, ◌/◌, ◌%◌, ◌≡◌, ◌≤◌, ◌==◌, ◌&&◌, ◌||◌, [], ◌∷◌, min}
-use Rattle.std.specs.Prelude.{nat_eq, nat_le, nat_lt, Bool, true, false, if◌then◌else◌, Some, None, codes}
+use Rattle.std.specs.Prelude.{nat_eq, nat_le, nat_lt, Bool, true, false, if◌then◌else◌, Some, None, codes, Result}
 use Rattle.av1_blocks.specs.declared.block_context.BlockContext.{BlockContext}
 use Rattle.av1_blocks.specs.Grid.{Grid, block_at, over}
 use Rattle.av1_cdf.specs.Distribution.{Distribution}
 use Rattle.av1_geometry.specs.declared.block_offset.BlockOffset.{BlockOffset}
 use Rattle.av1_geometry.specs.declared.block_size.BlockSize.{BlockSize}
+use Rattle.av1_ec.specs.declared.known.Known.{Ghosts}
 use Rattle.av1_model.specs.Element.{Element, known, symbol, choose}
-use Rattle.av1_syntax.specs.Calls.{adaptive}
+use Rattle.av1_syntax.specs.Calls.{adaptive, Coded}
+use Rattle.av1_syntax.specs.declared.context_writer.ContextWriter.{ContextWriter}
 
 -- the number of x among the n from 0 on: those around r come first, above and below it in turn, and then the others, the nearest first
 abbrev pub interleaved : ℕ → ℕ → ℕ → ℕ
@@ -53,6 +55,10 @@ segment_element g bo skip last =
     choose skip (known r)
     (symbol (adaptive (codes "spatial_segmentation_cdfs") (segment_context g bo ∷ []))
     (λ s. if nat_lt s (last + 1) then Some (deinterleaved (last + 1) r s) else None) (interleaved (last + 1) r))
+
+-- they went the path of the segment of a block, or its beginning
+abbrev pub SegmentCoded : {W U E : Type 0} → Ghosts W → Result U E → Grid → BlockOffset → Bool → ℕ → W → W → ContextWriter → ContextWriter → Type 0
+SegmentCoded known r g bo skip last w u old new = Coded known r (segment_element g bo skip last) (segment_of g bo skip last) w u old new
 
 -- a segment that a block may have
 abbrev pub IsSegment : Grid → BlockOffset → Bool → ℕ → ℕ → Type 0

@@ -166,6 +166,10 @@ entered_split bo size tx split bc = if split then entered_parts bo (halved 1 tx)
 abbrev pub AreSome : BlockOffset → TxSize → List (ℕ × ℕ) → BlockContext → BlockContext → Type 0
 AreSome bo part ps old new = (n : ℕ) × (n ≤ length ps) × (new ≡ entered_parts bo part (take n ps) old)
 
+-- the same of a block whose largest transform is split, or is not
+abbrev pub AreSomeIf : Bool → BlockSize → BlockOffset → TxSize → BlockContext → BlockContext → Type 0
+AreSomeIf split size bo tx old new = let part = halved 1 tx in AreSome bo part (if split then parts_of size part else []) old new
+
 -- a transform is in one superblock
 pub record IsPlaced (bo : BlockOffset) (tx : TxSize) : Type 0 where
   pub column : bo.x % 16 + 2 ^ (tx_width_log2 tx - 2) ≤ 16

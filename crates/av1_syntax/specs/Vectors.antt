@@ -68,6 +68,10 @@ fraction_element axis p c d =
     after (digit_where (has_quarters p) (quarters_slot axis c d) 3)
     (λ f. renamed (digit_where (has_eighths p) (eighth_slot axis c) 1) (λ h. 8 * d + 2 * f + h) (λ o. o % 2)) (λ o. o / 2 % 4)
 
+-- the fraction of a size that has so much above the base of its class
+abbrev pub fraction_at : ℕ → MvSubpelPrecision → ℕ → ℕ → Element Distribution ℕ
+fraction_at axis p c o = fraction_element axis p c (o / 8)
+
 -- what a size has above the base of its class
 abbrev pub offset_element : ℕ → MvSubpelPrecision → ℕ → Element Distribution ℕ
 offset_element axis p c = after (whole_element axis c) (fraction_element axis p c) (λ o. o / 8)
@@ -105,9 +109,12 @@ component_element axis p =
     after (flag (Adaptive (component_slot axis (codes "sign_cdf") [])))
     (λ neg. renamed (size_element axis p) (λ z. directed neg (z + 1)) (λ v. magnitude v - 1)) is_negative
 
--- a component as it is coded: a size that is no multiple of the unit becomes the next one
+-- a component as it is coded, by its sign and its size, which counts from 0: a size that is no multiple of the unit becomes the next one
+abbrev pub coded_from : MvSubpelPrecision → Bool → ℕ → ℤ
+coded_from p negative z = directed negative (with_ones p z + 1)
+
 abbrev pub coded_component : MvSubpelPrecision → ℤ → ℤ
-coded_component p v = directed (is_negative v) (with_ones p (magnitude v - 1) + 1)
+coded_component p v = coded_from p (is_negative v) (magnitude v - 1)
 
 -- a component that may be zero: multiples of the unit
 pub record IsComponent (p : MvSubpelPrecision) (v : ℤ) : Type 0 where

@@ -35,7 +35,7 @@ impl ContextWriter {
     ghost use Rattle.av1_syntax.specs.Calls.{Coded, Moved};
     ghost use Rattle.av1_syntax.specs.Flags.{filter_intra_element};
     ghost use Rattle.av1_syntax.specs.IntraModes.{intra_mode_kf_element, intra_mode_element, uv_mode_element, angle_delta_element};
-    ghost use Rattle.av1_syntax.specs.Palette.{off_where, palette_element};
+    ghost use Rattle.av1_syntax.specs.Palette.{off_where, palette_at};
 
     // The class of the mode above.
     fn above_class(&self, bo: TileBlockOffset) -> usize
@@ -209,8 +209,7 @@ impl ContextWriter {
         requires height { height_log2 bsize ≤ 6 }
         requires cdfs { AreCdfs self.old.fc }
         requires early { (W.position w.old).shift ≤ 2 ^ 28 }
-        ensures wrote { let asked = has_chroma_at bo.0.x bo.0.y bsize xdec ydec cs && is_dc chroma_mode in
-            Coded W.Known result (palette_element (is_dc luma_mode) asked bsize) false w.old w.new self.old self.new }
+        ensures wrote { Coded W.Known result (palette_at bo.0 bsize luma_mode chroma_mode xdec ydec cs) false w.old w.new self.old self.new }
         ensures moves { Moved W.Known 26 w.old w.new self.old self.new }
         ensures rest { self.new.bc ≡ self.old.bc }
     {

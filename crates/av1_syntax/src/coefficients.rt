@@ -123,10 +123,9 @@ fn context_at(contexts: &[i8], c: usize) -> usize
 
 impl ContextWriter {
     ghost use Rattle.av1_syntax.specs.Calls.{Coded, Moved};
-    ghost use Rattle.av1_syntax.specs.Coefficients.{levels_at, size_at, sizes_from, size_after, sizes_element};
-    ghost use Rattle.av1_syntax.specs.Coefficients.{signs_element, block_element, AreCoded, ArePadded, AreContexts};
-    ghost use Rattle.av1_syntax.specs.EndOfBlock.{extra_element, end_element};
-    ghost use Rattle.av1_syntax.specs.Levels.{coeff_size_element};
+    ghost use Rattle.av1_syntax.specs.Coefficients.{levels_at, end_in, SizeByCoded, SizeCoded, SizesCoded};
+    ghost use Rattle.av1_syntax.specs.Coefficients.{SignsCoded, BlockCoded, AreCoded, ArePadded, AreContexts};
+    ghost use Rattle.av1_syntax.specs.EndOfBlock.{extra_element};
 
     // Codes the number of an end in its class: the highest bit by a distribution, the others as they are.
     fn write_eob_extra<W: Writer>(
@@ -164,8 +163,7 @@ impl ContextWriter {
         requires plane { block.plane_type < 2 }
         requires cdfs { AreCdfs self.old.fc }
         requires shift { (W.position w.old).shift + 130 ≤ 2 ^ 28 + 2 ^ 24 }
-        ensures wrote { let end = end_element self.old.eob_by_coded block.tx_size block.plane_type (one_dimensional block.tx_class) in
-            Coded W.Known result end eob w.old w.new self.old self.new }
+        ensures wrote { Coded W.Known result (end_in self.old.eob_by_coded block) eob w.old w.new self.old self.new }
         ensures moves { Moved W.Known 130 w.old w.new self.old self.new }
         ensures rest { self.new.bc ≡ self.old.bc }
     {
@@ -205,8 +203,7 @@ impl ContextWriter {
         requires room { (coded_width block.tx_size + 4) * (coded_height block.tx_size + 4) ≤ length levels.now }
         requires cdfs { AreCdfs self.old.fc }
         requires shift { (W.position w.old).shift + 65 ≤ 2 ^ 28 + 2 ^ 24 }
-        ensures wrote { let range = range_by block.tx_size block.plane_type block.tx_class levels.now at in
-            Coded W.Known result (coeff_size_element (Adaptive (slot_of base)) range (if is_last then 1 else 0)) (min size 15) w.old w.new self.old self.new }
+        ensures wrote { SizeByCoded W.Known result block (slot_of base) levels.now at is_last size w.old w.new self.old self.new }
         ensures moves { Moved W.Known 65 w.old w.new self.old self.new }
         ensures rest { self.new.bc ≡ self.old.bc }
     {
@@ -237,10 +234,7 @@ impl ContextWriter {
         requires place { c < eob }
         requires cdfs { AreCdfs self.old.fc }
         requires shift { (W.position w.old).shift + 65 ≤ 2 ^ 28 + 2 ^ 24 }
-        ensures wrote { let values = map T.value coeffs.now in
-            let later = sizes_from values scan.now eob (c + 1) in
-            let element = size_after block.tx_size block.plane_type block.tx_class scan.now c later in
-            Coded W.Known result element (size_at values scan.now c) w.old w.new self.old self.new }
+        ensures wrote { SizeCoded W.Known result block (map T.value coeffs.now) scan.now eob c w.old w.new self.old self.new }
         ensures moves { Moved W.Known 65 w.old w.new self.old self.new }
         ensures rest { self.new.bc ≡ self.old.bc }
     {
@@ -269,8 +263,7 @@ impl ContextWriter {
         requires plane { block.plane_type < 2 }
         requires cdfs { AreCdfs self.old.fc }
         requires shift { (W.position w.old).shift + 65 * 1024 ≤ 2 ^ 28 + 2 ^ 24 }
-        ensures wrote { let sizes = sizes_element block.tx_size block.plane_type block.tx_class scan.now eob in
-            Coded W.Known result sizes (sizes_from (map T.value coeffs.now) scan.now eob 0) w.old w.new self.old self.new }
+        ensures wrote { SizesCoded W.Known result block (map T.value coeffs.now) scan.now eob w.old w.new self.old self.new }
         ensures moves { Moved W.Known (65 * 1024) w.old w.new self.old self.new }
         ensures rest { self.new.bc ≡ self.old.bc }
     {
@@ -298,9 +291,7 @@ impl ContextWriter {
         requires plane { block.plane_type < 2 }
         requires cdfs { AreCdfs self.old.fc }
         requires shift { (W.position w.old).shift + 832 * 1024 ≤ 2 ^ 28 + 2 ^ 24 }
-        ensures wrote { let values = map T.value coeffs.now in
-            let levels = signs_element block.plane_type dc_sign_ctx (sizes_from values scan.now eob 0) in
-            Coded W.Known result levels (levels_at values scan.now eob) w.old w.new self.old self.new }
+        ensures wrote { SignsCoded W.Known result block dc_sign_ctx (map T.value coeffs.now) scan.now eob w.old w.new self.old self.new }
         ensures total { IfOk result (λ s. s ≡ sum_by unsigned_abs (levels_at (map T.value coeffs.now) scan.now eob)) }
         ensures moves { Moved W.Known (832 * 1024) w.old w.new self.old self.new }
         ensures rest { self.new.bc ≡ self.old.bc }
@@ -329,8 +320,7 @@ impl ContextWriter {
         requires plane { block.plane_type < 2 }
         requires cdfs { AreCdfs self.old.fc }
         requires shift { (W.position w.old).shift + 65 * 1024 ≤ 2 ^ 28 + 2 ^ 24 }
-        ensures wrote { let sizes = sizes_element block.tx_size block.plane_type block.tx_class scan.now eob in
-            Coded W.Known result sizes (sizes_from (map T.value coeffs.now) scan.now eob 0) w.old w.new self.old self.new }
+        ensures wrote { SizesCoded W.Known result block (map T.value coeffs.now) scan.now eob w.old w.new self.old self.new }
         ensures moves { Moved W.Known (65 * 1024) w.old w.new self.old self.new }
         ensures rest { self.new.bc ≡ self.old.bc }
     {
@@ -373,8 +363,7 @@ impl ContextWriter {
         requires plane { block.plane_type < 2 }
         requires cdfs { AreCdfs self.old.fc }
         requires shift { (W.position w.old).shift + 918658 ≤ 2 ^ 28 + 2 ^ 24 }
-        ensures wrote { let levels = block_element self.old.eob_by_coded block.tx_size block.plane_type dc_sign_ctx block.tx_class scan.now in
-            Coded W.Known result levels (levels_at (map T.value coeffs.now) scan.now eob) w.old w.new self.old self.new }
+        ensures wrote { BlockCoded W.Known result block dc_sign_ctx (map T.value coeffs.now) scan.now eob w.old w.new self.old self.new }
         ensures total { IfOk result (λ s. s ≡ sum_by unsigned_abs (levels_at (map T.value coeffs.now) scan.now eob)) }
         ensures moves { Moved W.Known 918658 w.old w.new self.old self.new }
         ensures rest { self.new.bc ≡ self.old.bc }

@@ -36,9 +36,9 @@ pub struct ContextWriterCheckpoint {
 
 impl ContextWriter {
     ghost use Rattle.av1_blocks.specs.Edges.{taken, with_edges};
-    ghost use Rattle.av1_cdf.specs.Log.{IsReached, IsWithin, undone, saves_of, small_saves, large_saves};
+    ghost use Rattle.av1_cdf.specs.Log.{IsReached, IsWithin, undone, saves_of};
     ghost use Rattle.av1_cdf.specs.declared.log.CDFContextCheckpoint.{CDFContextCheckpoint};
-    ghost use Rattle.av1_syntax.specs.Calls.{stands, coded_in, learnt_in, Coded, Moved};
+    ghost use Rattle.av1_syntax.specs.Calls.{stands, coded_in, learnt_in, saves_before, Coded, Moved};
     ghost use Rattle.av1_syntax.specs.Flags.{flag};
     ghost use Rattle.av1_syntax.specs.Literals.{literal};
 
@@ -83,8 +83,7 @@ impl ContextWriter {
         ensures context { self.new.fc ≡ undone self.old.fc_log self.old.fc checkpoint.now.fc }
         ensures edges { self.new.bc ≡ with_edges checkpoint.now.bc self.old.bc }
         ensures switches { (self.new.adapt ≡ self.old.adapt) × (self.new.eob_by_coded ≡ self.old.eob_by_coded) }
-        ensures cut { let c = checkpoint.now.fc in let log = self.old.fc_log in
-            saves_of self.new.fc_log ≡ (take c.small (small_saves log), take c.large (large_saves log)) }
+        ensures cut { saves_of self.new.fc_log ≡ saves_before self.old.fc_log checkpoint.now.fc }
         ensures reached { (c : CDFContextCheckpoint) → IsWithin c checkpoint.now.fc → IsReached self.new.fc_log c }
         ensures kept { (c : CDFContextCheckpoint) → IsWithin c checkpoint.now.fc → undone self.new.fc_log self.new.fc c ≡ undone self.old.fc_log self.old.fc c }
     {

@@ -5,8 +5,8 @@ ghost use Rattle.av1_cdf.specs.Layout.{slot};
 ghost use Rattle.av1_geometry.specs.declared.constants.TheConstants.{SGRPROJ_XQD_MIN, SGRPROJ_XQD_MAX};
 ghost use Rattle.av1_model.specs.Cdf.{IsCdf};
 ghost use Rattle.av1_model.specs.Position.{interval_of};
-ghost use Rattle.av1_syntax.specs.Restoration.{plane_at, number_at, kind_of, IsBetween, AreWithin};
-ghost use Rattle.av1_syntax.specs.Restoration.{near_word, weight_by, flat_bits, flat_bits_by, IsCounted, IsCost};
+ghost use Rattle.av1_syntax.specs.Restoration.{plane_at, number_at, IsBetween, AreWithin};
+ghost use Rattle.av1_syntax.specs.Restoration.{near_word, weight_by, flat_bits_by, IsCounted, IsCost, IsFilterCost};
 
 use crate::context_writer::ContextWriter;
 use crate::restoration::{RestorationFilter, TileRestorationState, has_pass};
@@ -32,8 +32,7 @@ pub trait CountLrf {
         requires filter { IsCounted filter }
         requires references { AreWithin 2 SGRPROJ_XQD_MIN SGRPROJ_XQD_MAX (plane_at rs.now pli).sgrproj_ref }
         requires cdf { IsCdf (contents (numbers self.now) (slot (codes "lrf_switchable_cdf") [])) }
-        ensures { let cdf = contents (numbers self.now) (slot (codes "lrf_switchable_cdf") []) in
-            IsCost (interval_of (W.position w.now)) cdf (kind_of filter) (flat_bits (plane_at rs.now pli) filter) result };
+        ensures { IsFilterCost (interval_of (W.position w.now)) (numbers self.now) (plane_at rs.now pli) filter result };
 }
 
 impl CountLrf for CDFContext {
@@ -65,8 +64,7 @@ impl ContextWriter {
         requires filter { IsCounted filter }
         requires references { AreWithin 2 SGRPROJ_XQD_MIN SGRPROJ_XQD_MAX (plane_at rs.now pli).sgrproj_ref }
         requires cdf { IsCdf (contents self.now.fc (slot (codes "lrf_switchable_cdf") [])) }
-        ensures { let cdf = contents self.now.fc (slot (codes "lrf_switchable_cdf") []) in
-            IsCost (interval_of (W.position w.now)) cdf (kind_of filter) (flat_bits (plane_at rs.now pli) filter) result }
+        ensures { IsFilterCost (interval_of (W.position w.now)) self.now.fc (plane_at rs.now pli) filter result }
     {
         self.fc.count_lrf_switchable(w, rs, filter, pli)
     }

@@ -14,7 +14,7 @@ use av1_geometry::{OutOfMemory, TileBlockOffset};
 
 impl ContextWriter {
     ghost use Rattle.av1_syntax.specs.Calls.{Coded, Moved};
-    ghost use Rattle.av1_syntax.specs.Deltas.{rest_element, size_element, delta_element, deltas_element};
+    ghost use Rattle.av1_syntax.specs.Deltas.{rest_element, size_element, delta_element, DeltasCoded};
 
     /// Codes what a block, as it stands at its place in the grid, adds to the levels of the loop filter: one number for all
     /// edges, or with `multi` one for each direction of luma and one for each plane of chroma.
@@ -31,8 +31,7 @@ impl ContextWriter {
         requires deltas { AreDeltas 63 (delta_count multi planes) (block_at self.old.bc.blocks bo.0.x bo.0.y).deblock_deltas }
         requires cdfs { AreCdfs self.old.fc }
         requires early { (W.position w.old).shift ≤ 2 ^ 28 }
-        ensures wrote { let deltas = (block_at self.old.bc.blocks bo.0.x bo.0.y).deblock_deltas in
-            Coded W.Known result (deltas_element multi planes) deltas w.old w.new self.old self.new }
+        ensures wrote { DeltasCoded W.Known result self.old.bc.blocks bo.0 multi planes w.old w.new self.old self.new }
         ensures moves { Moved W.Known 520 w.old w.new self.old self.new }
         ensures rest { self.new.bc ≡ self.old.bc }
     {

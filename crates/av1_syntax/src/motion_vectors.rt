@@ -6,7 +6,7 @@ ghost use Rattle.av1_cdf.specs.Slots.{slot_of};
 ghost use Rattle.av1_geometry.specs.Cfl.{magnitude};
 ghost use Rattle.av1_geometry.specs.MotionVector.{IsValid, joint_of, is_vertical, class_base};
 ghost use Rattle.av1_syntax.specs.Vectors.{has_quarters, has_eighths, span, quarters_slot, eighth_slot, with_ones, is_negative};
-ghost use Rattle.av1_syntax.specs.Vectors.{directed, coded_component, IsComponent, joint_number, difference, IsDifference};
+ghost use Rattle.av1_syntax.specs.Vectors.{coded_from, coded_component, IsComponent, joint_number, difference, IsDifference};
 
 use crate::context_writer::ContextWriter;
 use av1_cdf::{CDFContext, CDFOffset};
@@ -18,7 +18,7 @@ use av1_geometry::{
 
 impl ContextWriter {
     ghost use Rattle.av1_syntax.specs.Calls.{Coded, Moved};
-    ghost use Rattle.av1_syntax.specs.Vectors.{digit, digit_where, bits_from, whole_element, fraction_element, offset_element, size_element};
+    ghost use Rattle.av1_syntax.specs.Vectors.{digit, digit_where, bits_from, whole_element, fraction_at, offset_element, size_element};
     ghost use Rattle.av1_syntax.specs.Vectors.{component_element, component_where, components_element, difference_element, vector_element};
 
     /// Codes a vector by how it differs from a reference vector, in units of 1/8 sample: which components differ, and then the
@@ -143,8 +143,7 @@ impl ContextWriter {
         requires axis { axis < 2 }
         requires cdfs { AreCdfs self.old.fc }
         requires shift { (W.position w.old).shift + 182 ≤ 2 ^ 28 + 2 ^ 24 }
-        ensures wrote { let comp = directed negative (with_ones precision z + 1) in
-            Coded W.Known result (component_element axis precision) comp w.old w.new self.old self.new }
+        ensures wrote { Coded W.Known result (component_element axis precision) (coded_from precision negative z) w.old w.new self.old self.new }
         ensures moves { Moved W.Known 182 w.old w.new self.old self.new }
         ensures rest { self.new.bc ≡ self.old.bc }
     {
@@ -255,8 +254,7 @@ impl ContextWriter {
         requires axis { axis < 2 }
         requires cdfs { AreCdfs self.old.fc }
         requires shift { (W.position w.old).shift + 26 ≤ 2 ^ 28 + 2 ^ 24 }
-        ensures wrote { let element = fraction_element axis precision mv_class (offset / 8) in
-            Coded W.Known result element (with_ones precision offset) w.old w.new self.old self.new }
+        ensures wrote { Coded W.Known result (fraction_at axis precision mv_class offset) (with_ones precision offset) w.old w.new self.old self.new }
         ensures moves { Moved W.Known 26 w.old w.new self.old self.new }
         ensures rest { self.new.bc ≡ self.old.bc }
     {

@@ -7,7 +7,7 @@ ghost use Rattle.av1_geometry.specs.Cfl.{sign_at, scale_at, signed};
 ghost use Rattle.av1_geometry.specs.PartitionType.{partition_number};
 ghost use Rattle.av1_model.specs.Cdf.{IsCdf};
 ghost use Rattle.av1_syntax.specs.Partition.{probability, gathered, vert_alike, horz_alike, partition_slot, has_cols, has_rows, IsParted, is_allowed};
-ghost use Rattle.av1_syntax.specs.Segments.{agreement, predicted_segment, segment_context, segment_of, entered_segment, interleaved};
+ghost use Rattle.av1_syntax.specs.Segments.{agreement, predicted_segment, segment_context, entered_segment, interleaved};
 
 use crate::context_writer::ContextWriter;
 use av1_cdf::{CDFContext, CDFOffset};
@@ -16,10 +16,10 @@ use av1_geometry::{BlockSize, CFLParams, OutOfMemory, PartitionType, TileBlockOf
 
 impl ContextWriter {
     ghost use Rattle.av1_syntax.specs.Calls.{Coded, Moved};
-    ghost use Rattle.av1_syntax.specs.Factors.{AreCoded, factors_element, factor_element, factors_of};
+    ghost use Rattle.av1_syntax.specs.Factors.{AreCoded, factors_element, factor_where, factor_at, factors_of};
     ghost use Rattle.av1_syntax.specs.Flags.{skip_element};
     ghost use Rattle.av1_syntax.specs.Partition.{partition_element};
-    ghost use Rattle.av1_syntax.specs.Segments.{segment_element};
+    ghost use Rattle.av1_syntax.specs.Segments.{SegmentCoded};
 
     /// Codes whether a block is skipped: whether it has no coefficients.
     pub fn write_skip<W: Writer>(
@@ -127,8 +127,7 @@ impl ContextWriter {
         requires factors { AreCoded cfl }
         requires cdfs { AreCdfs self.old.fc }
         requires shift { (W.position w.old).shift + 13 ≤ 2 ^ 28 + 2 ^ 24 }
-        ensures wrote { let signs = factor_element (sign_at cfl uv) (sign_at cfl (1 - uv)) in
-            Coded W.Known result signs (signed (sign_at cfl uv) (scale_at cfl uv)) w.old w.new self.old self.new }
+        ensures wrote { Coded W.Known result (factor_where cfl uv) (factor_at cfl uv) w.old w.new self.old self.new }
         ensures moves { Moved W.Known 13 w.old w.new self.old self.new }
         ensures rest { self.new.bc ≡ self.old.bc }
     {
@@ -200,8 +199,7 @@ impl ContextWriter {
         requires segment { skip ≡ false → (block_at self.old.bc.blocks bo.0.x bo.0.y).segmentation_idx ≤ last_active_segid }
         requires cdfs { AreCdfs self.old.fc }
         requires early { (W.position w.old).shift ≤ 2 ^ 28 }
-        ensures wrote { let g = self.old.bc.blocks in
-            Coded W.Known result (segment_element g bo.0 skip last_active_segid) (segment_of g bo.0 skip last_active_segid) w.old w.new self.old self.new }
+        ensures wrote { SegmentCoded W.Known result self.old.bc.blocks bo.0 skip last_active_segid w.old w.new self.old self.new }
         ensures moves { Moved W.Known 13 w.old w.new self.old self.new }
         ensures edges { self.new.bc ≡ entered_segment bo.0 bsize skip last_active_segid self.old.bc }
     {

@@ -31,7 +31,7 @@ pub(crate) struct RefContexts {
 
 impl ContextWriter {
     ghost use Rattle.av1_syntax.specs.Calls.{Coded, Moved};
-    ghost use Rattle.av1_syntax.specs.RefFrames.{ref_frames_element, among_element, single_element, two_element, pair_element, behind, ahead};
+    ghost use Rattle.av1_syntax.specs.RefFrames.{RefFramesCoded, among_element, single_element, two_element, pair_element, behind, ahead};
 
     /// Notes in the block at a place how often the blocks above and to the left refer to each of the seven references.
     pub fn fill_neighbours_ref_counts(&mut self, bo: TileBlockOffset)
@@ -149,8 +149,7 @@ impl ContextWriter {
             AreRefFrames (may_be_pair reference_mode b) (ref_frames_at self.old.bc.blocks bo.0) }
         requires cdfs { AreCdfs self.old.fc }
         requires early { (W.position w.old).shift ≤ 2 ^ 28 }
-        ensures wrote { let g = self.old.bc.blocks in
-            Coded W.Known result (ref_frames_element g bo.0 reference_mode) (ref_frames_at g bo.0) w.old w.new self.old self.new }
+        ensures wrote { RefFramesCoded W.Known result self.old.bc.blocks bo.0 reference_mode w.old w.new self.old self.new }
         ensures moves { Moved W.Known 78 w.old w.new self.old self.new }
         ensures rest { self.new.bc ≡ self.old.bc }
     {

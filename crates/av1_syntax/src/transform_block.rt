@@ -1,7 +1,7 @@
 // The coefficients of a transform block, with its type and its contexts.
 ghost use Rattle.std.specs.Prelude.{◌≡◌, ◌≢◌, ◌+◌, ◌-◌, ◌*◌, ◌/◌, ◌%◌, ◌^◌, ◌<◌, ◌≤◌, Bool, IfOk};
 ghost use Rattle.std.specs.Prelude.{OnOk, OnErr, List, length, slice_index, map, min, nat_lt, pos};
-ghost use Rattle.av1_blocks.specs.Coefficients.{with_dc_sign};
+ghost use Rattle.av1_blocks.specs.Coefficients.{with_dc_sign, block_contexts};
 ghost use Rattle.av1_blocks.specs.Edges.{with_coefficients};
 ghost use Rattle.av1_cdf.specs.Context.{AreCdfs};
 ghost use Rattle.av1_coef.specs.Contexts.{coded_area};
@@ -55,7 +55,7 @@ fn first_level<T: Coefficient>(coeffs: &[T], scan: &[u16]) -> i32
 
 impl ContextWriter {
     ghost use Rattle.av1_syntax.specs.Calls.{Coded, Moved};
-    ghost use Rattle.av1_syntax.specs.Coefficients.{levels_at, types_element, coeffs_element, block_contexts, entry_of, AreCoded, HasType, CoeffsCoded};
+    ghost use Rattle.av1_syntax.specs.Coefficients.{levels_at, types_element, coeffs_element, entry_at, AreCoded, HasType, CoeffsCoded};
 
     // Codes the type of a transform block that has levels, in luma.
     fn write_type_of_plane<W: Writer>(
@@ -73,8 +73,7 @@ impl ContextWriter {
         requires some { 1 ≤ eob }
         requires cdfs { AreCdfs self.old.fc }
         requires shift { (W.position w.old).shift + 13 ≤ 2 ^ 28 + 2 ^ 24 }
-        ensures wrote { let types = types_element plane tx_size pred_mode use_reduced_tx_set tx_type in
-            Coded W.Known result types tx_type w.old w.new self.old self.new }
+        ensures wrote { Coded W.Known result (types_element plane tx_size pred_mode use_reduced_tx_set tx_type) tx_type w.old w.new self.old self.new }
         ensures moves { Moved W.Known 13 w.old w.new self.old self.new }
         ensures rest { self.new.bc ≡ self.old.bc }
     {
@@ -128,8 +127,8 @@ impl ContextWriter {
             let element = coeffs_element self.old.eob_by_coded plane tx_size pred_mode use_reduced_tx_set tx_type contexts in
             let levels = levels_at (map T.value coeffs_in.now) scan.now eob in
             CoeffsCoded W.Known result element tx_type scan.now levels w.old w.new self.old self.new }
-        ensures edges { let entry = entry_of (levels_at (map T.value coeffs_in.now) scan.now eob) in
-            OnOk result (self.new.bc ≡ with_coefficients plane bo.0 tx_size xdec ydec entry self.old.bc) }
+        ensures edges { OnOk result (self.new.bc ≡
+            with_coefficients plane bo.0 tx_size xdec ydec (entry_at (map T.value coeffs_in.now) scan.now eob) self.old.bc) }
         ensures refused { OnErr result (self.new.bc ≡ self.old.bc) }
         ensures moves { Moved W.Known (2 ^ 20) w.old w.new self.old self.new }
     {

@@ -14,7 +14,7 @@ ghost use Rattle.av1_syntax.specs.TransformSizes.{longer, halved, depths, depth_
 ghost use Rattle.av1_syntax.specs.TransformSizes.{reach_above, reach_left, is_wide_above, is_high_left, tx_size_context};
 ghost use Rattle.av1_syntax.specs.TransformSizes.{width_above, height_left, split_category};
 ghost use Rattle.av1_syntax.specs.TransformSizes.{txfm_partition_context, split_slot, IsPlaced, is_within, parts_of, place_of};
-ghost use Rattle.av1_syntax.specs.TransformSizes.{entered_tx, entered_parts, entered_split, AreSome};
+ghost use Rattle.av1_syntax.specs.TransformSizes.{entered_tx, entered_parts, entered_split, AreSome, AreSomeIf};
 ghost use Rattle.av1_syntax.specs.TransformTypes.{tx_type_slot};
 
 use crate::context_writer::ContextWriter;
@@ -188,8 +188,7 @@ impl ContextWriter {
             Coded W.Known result e txfm_split w.old w.new self.old self.new }
         ensures moves { Moved W.Known 65 w.old w.new self.old self.new }
         ensures entered { OnOk result (self.new.bc ≡ entered_split bo.0 bsize tx_size txfm_split self.old.bc) }
-        ensures refused { let parts = if txfm_split then parts_of bsize (halved 1 tx_size) else [] in
-            OnErr result (AreSome bo.0 (halved 1 tx_size) parts self.old.bc self.new.bc) }
+        ensures refused { OnErr result (AreSomeIf txfm_split bsize bo.0 tx_size self.old.bc self.new.bc) }
     {
         if depth == 1 {
             return self.write_part(w, bo, bsize, tx_size, tbx, tby);
@@ -220,8 +219,7 @@ impl ContextWriter {
         ensures wrote { Coded W.Known result (split_element self.old.bc bo.0 bsize tbx tby) txfm_split w.old w.new self.old self.new }
         ensures moves { Moved W.Known 65 w.old w.new self.old self.new }
         ensures entered { OnOk result (self.new.bc ≡ entered_split bo.0 bsize largest txfm_split self.old.bc) }
-        ensures refused { let parts = if txfm_split then parts_of bsize (halved 1 largest) else [] in
-            OnErr result (AreSome bo.0 (halved 1 largest) parts self.old.bc self.new.bc) }
+        ensures refused { OnErr result (AreSomeIf txfm_split bsize bo.0 largest self.old.bc self.new.bc) }
     {
         let context = self.txfm_partition_context(bo, bsize, largest, tbx, tby);
         self.flag(w, txfm_split, CDFContext::txfm_partition_cdf(context))?;

@@ -94,6 +94,9 @@ pub record Stage (W : Type 0) : Type 0 where
   pub tile : TileState
   pub marks : List TrialMark
 
+abbrev pub stage : {W : Type 0} → W → TileState → List TrialMark → Stage W
+stage w state left = record { writer = w; tile = state; marks = left }
+
 module _ {W : Type 0} (writer : Ghosts W) where
   -- an item was taken
   abbrev pub TakesOne : Stage W → Stage W → Item → Type 0

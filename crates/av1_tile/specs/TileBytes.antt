@@ -7,7 +7,7 @@ use Rattle.av1_tile.specs.declared.report.TileReport.{TileReport}
 use Rattle.av1_tile.specs.declared.report.TrialCost.{TrialCost}
 use Rattle.av1_step.specs.declared.unit.Item.{Item}
 use Rattle.av1_step.specs.declared.unit.Unit.{Unit}
-use Rattle.av1_step.specs.Given.{Given}
+use Rattle.av1_step.specs.Given.{Given, given_of}
 use Rattle.av1_step.specs.Script.{begin, read_steps}
 use Rattle.av1_step.specs.Step.{question_of}
 use Rattle.av1_step.specs.Tile.{Tile}
@@ -32,6 +32,10 @@ wrong_in g k items = first_wrong 0 (started (begin g k)) items
 -- the interval where coding them ends
 abbrev pub ending : Given → ℕ → List Item → Interval
 ending g k items = (progress g k items).at.interval
+
+-- where coding tile number k of a unit ends
+abbrev pub end_of : Unit → ℕ → Interval
+end_of u k = ending (given_of u) k (script_of u k)
 
 -- what their trials cost
 abbrev pub costs_of : Given → ℕ → List Item → List TrialCost

@@ -1,6 +1,6 @@
 -- A script: steps, and trials of steps that are kept or given up.
 use Rattle.std.specs.Prelude.{◌≡◌, ℕ, ◌+◌, ◌-◌, ◌/◌, ◌&&◌, ◌||◌, ◌==◌, ◌++◌, not, List, [], ◌∷◌}
-use Rattle.std.specs.Prelude.{Bool, true, false, Option, Some, None, option_map, nat_lt, if◌then◌else◌}
+use Rattle.std.specs.Prelude.{Bool, true, false, Option, Some, None, option_map, nat_lt, if◌then◌else◌, get_or, set}
 use Rattle.std.specs.Option.{option_map_or}
 use Rattle.av1_model.specs.Eighths.{eighths}
 use Rattle.av1_model.specs.Interval.{bits}
@@ -51,6 +51,10 @@ pub record Progress : Type 0 where
 -- what a trial that ends here cost: how much was coded since its beginning, before it is undone
 abbrev pub cost_of : Bool → Coding Tile → Trial → TrialCost
 cost_of kept at t = record { tile = at.context.number; item = t.item; eighths = eighths at.interval - eighths t.start.interval; kept = kept }
+
+-- costs, of which number k is told, where it is that of a trial that is there
+abbrev pub cost_told : List TrialCost → ℕ → TrialCost → ℕ → Bool → List TrialCost
+cost_told costs k other eighths kept = set costs k (record (get_or costs k other) { eighths = eighths; kept = kept })
 
 -- costs join those of the innermost trial, or of the script
 abbrev pub with_costs : List TrialCost → Coding Tile → List Trial → List TrialCost → Progress

@@ -8,7 +8,7 @@ ghost use Rattle.av1_model.specs.Interval.{bits, final_bytes};
 ghost use Rattle.av1_model.specs.Position.{encoder_at};
 ghost use Rattle.av1_tile.specs.Coder.{IsNew, HasCoded, IsReplayed};
 ghost use Rattle.av1_step.specs.Given.{given_of, tile_count, IsGiven};
-ghost use Rattle.av1_tile.specs.TileBytes.{script_of, wrong_in, ending, costs_of};
+ghost use Rattle.av1_tile.specs.TileBytes.{script_of, wrong_in, end_of, costs_of};
 
 use crate::costs::TrialCosts;
 use crate::item::write_item;
@@ -120,8 +120,8 @@ pub fn code_by<W: Writer + Drop>(
     requires script { tile < length unit.now.scripts.items }
     requires new { IsNew (W.position writer) }
     ensures allowed { OnOk result (wrong_in (given_of unit.now) tile (script_of unit.now tile) ≡ None) }
-    ensures coded { IfOk result (λ r. HasCoded (W.position writer) (W.position r.0) (ending (given_of unit.now) tile (script_of unit.now tile))) }
-    ensures few { OnOk result (eighths (ending (given_of unit.now) tile (script_of unit.now tile)) ≤ 8 * (2 ^ 28 + 2 ^ 24)) }
+    ensures coded { IfOk result (λ r. HasCoded (W.position writer) (W.position r.0) (end_of unit.now tile)) }
+    ensures few { OnOk result (eighths (end_of unit.now tile) ≤ 8 * (2 ^ 28 + 2 ^ 24)) }
     ensures trials { IfOk result (λ r. r.1.items ≡ costs_of (given_of unit.now) tile (script_of unit.now tile)) }
     ensures err { IfErr result (λ e. (e ≡ MemoryError) ⊎ (wrong_in (given_of unit.now) tile (script_of unit.now tile) ≡ Some e)) }
 {
@@ -162,9 +162,8 @@ fn code_via(
     requires tile { tile < tile_count unit.now.fi }
     requires script { tile < length unit.now.scripts.items }
     ensures allowed { OnOk result (wrong_in (given_of unit.now) tile (script_of unit.now tile) ≡ None) }
-    ensures coded { let end = ending (given_of unit.now) tile (script_of unit.now tile) in
-        IfOk result (λ r. ⟦<WriterBase<WriterEncoder> as Known>⟧.position r.0 ≡ encoder_at end) }
-    ensures few { OnOk result (eighths (ending (given_of unit.now) tile (script_of unit.now tile)) ≤ 8 * (2 ^ 28 + 2 ^ 24)) }
+    ensures coded { IfOk result (λ r. ⟦<WriterBase<WriterEncoder> as Known>⟧.position r.0 ≡ encoder_at (end_of unit.now tile)) }
+    ensures few { OnOk result (eighths (end_of unit.now tile) ≤ 8 * (2 ^ 28 + 2 ^ 24)) }
     ensures trials { IfOk result (λ r. r.1.items ≡ costs_of (given_of unit.now) tile (script_of unit.now tile)) }
     ensures err { IfErr result (λ e. (e ≡ MemoryError) ⊎ (wrong_in (given_of unit.now) tile (script_of unit.now tile) ≡ Some e)) }
 {
@@ -189,8 +188,8 @@ pub fn code_tile(alloc: Global, unit: &Unit, tile: usize, via: Via) -> Result<Co
     requires tile { tile < tile_count unit.now.fi }
     requires script { tile < length unit.now.scripts.items }
     ensures allowed { OnOk result (wrong_in (given_of unit.now) tile (script_of unit.now tile) ≡ None) }
-    ensures bytes { IfOk result (λ r. r.bytes.items ≡ final_bytes (ending (given_of unit.now) tile (script_of unit.now tile))) }
-    ensures bits { IfOk result (λ r. r.bits ≡ bits (ending (given_of unit.now) tile (script_of unit.now tile))) }
+    ensures bytes { IfOk result (λ r. r.bytes.items ≡ final_bytes (end_of unit.now tile)) }
+    ensures bits { IfOk result (λ r. r.bits ≡ bits (end_of unit.now tile)) }
     ensures trials { IfOk result (λ r. r.trials.items ≡ costs_of (given_of unit.now) tile (script_of unit.now tile)) }
     ensures short { IfOk result (λ r. length r.bytes.items ≤ 2 ^ 26) }
     ensures err { IfErr result (λ e. (e ≡ MemoryError) ⊎ (wrong_in (given_of unit.now) tile (script_of unit.now tile) ≡ Some e)) }

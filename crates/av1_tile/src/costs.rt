@@ -1,6 +1,7 @@
 // What the trials of a script cost.
-ghost use Rattle.std.specs.Prelude.{◌≡◌, ℕ, ◌<◌, List, [], ◌∷◌, ◌++◌, false, length, get_or, set, OnOk};
+ghost use Rattle.std.specs.Prelude.{◌≡◌, ℕ, ◌<◌, List, [], ◌∷◌, ◌++◌, false, length, OnOk};
 ghost use Rattle.av1_tile.specs.declared.report.TrialCost.{TrialCost};
+ghost use Rattle.av1_tile.specs.Trials.{cost_told};
 
 use crate::TrialCost;
 use av1_geometry::OutOfMemory;
@@ -47,8 +48,8 @@ impl TrialCosts {
     pub fn end(&mut self, eighths: u32, kept: bool)
         requires { (outer : List ℕ) (trial : ℕ) → self.old.begun.items ≡ outer ++ trial ∷ [] → trial < length self.old.all.items }
         ensures begun { (outer : List ℕ) (trial : ℕ) → self.old.begun.items ≡ outer ++ trial ∷ [] → self.new.begun.items ≡ outer }
-        ensures all { (outer : List ℕ) (trial : ℕ) (other : TrialCost) → self.old.begun.items ≡ outer ++ trial ∷ [] →
-            self.new.all.items ≡ set self.old.all.items trial (record (get_or self.old.all.items trial other) { eighths = eighths; kept = kept }) }
+        ensures all { (outer : List ℕ) (k : ℕ) (other : TrialCost) → self.old.begun.items ≡ outer ++ k ∷ [] →
+            self.new.all.items ≡ cost_told self.old.all.items k other eighths kept }
     {
         let Some(trial) = self.begun.pop() else {
             return

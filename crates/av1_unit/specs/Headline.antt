@@ -1,5 +1,7 @@
 -- What is promised of a unit that was written.
-use Rattle.std.specs.Prelude.{◌≡◌, ℕ, List, None}
+use Rattle.std.specs.Prelude.{◌≡◌, ℕ, ◌<◌, List, None, length, take}
+use Rattle.av1_bits.specs.Outside.{appended}
+use Rattle.av1_bits.specs.declared.outside.Sink.{Ghosts}
 use Rattle.av1_unit.specs.Coded.{numbered, trials_of}
 use Rattle.av1_unit.specs.Findings.{first_refusal}
 use Rattle.av1_unit.specs.Framing.{framed}
@@ -15,3 +17,19 @@ pub record IsWritten (u : PlainUnit) (unit_bytes : List ℕ) (report : ReportLis
   pub framed_unit : unit_bytes ≡ framed u.given tiles
   pub each : AreTiles u.given 0 u.scripts tiles report.tiles
   pub trials : report.trials ≡ trials_of u.given (numbered u)
+
+-- a sink took the bytes of a unit that was written, and didn't fail
+pub record IsSent {S : Type 0} (sink : Ghosts S) (old new : S) (u : PlainUnit) (report : ReportLists) : Type 0 where
+  pub bytes : List ℕ
+  pub written : IsWritten u bytes report
+  pub received : sink.sent new ≡ appended (sink.sent old) bytes
+  pub count : sink.faults new ≡ sink.faults old
+
+-- a sink took some of the bytes of a unit, from the front, and not all
+pub record IsSentInPart {S : Type 0} (sink : Ghosts S) (old new : S) (u : PlainUnit) : Type 0 where
+  pub bytes : List ℕ
+  pub report : ReportLists
+  pub k : ℕ
+  pub written : IsWritten u bytes report
+  pub less : k < length bytes
+  pub received : sink.sent new ≡ appended (sink.sent old) (take k bytes)

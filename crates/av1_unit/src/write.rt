@@ -1,13 +1,13 @@
 // A unit to its bytes, and to a sink.
-ghost use Rattle.std.specs.Prelude.{◌≡◌, ◌⊎◌, ℕ, ◌<◌, length, take, None, Some, IfOk, IfErr, OnOk, IsErrOf};
-ghost use Rattle.av1_bits.specs.Outside.{Rose, appended};
+ghost use Rattle.std.specs.Prelude.{◌≡◌, ◌⊎◌, ◌<◌, length, None, Some, IfOk, IfErr, OnOk, IsErrOf};
+ghost use Rattle.av1_bits.specs.Outside.{Rose};
 ghost use Rattle.av1_tile.specs.declared.error.UnitError.TheVariants.{OutOfMemory as MemoryError, SinkFault};
 ghost use Rattle.av1_step.specs.Given.{given_of};
 ghost use Rattle.av1_tile.specs.TileBytes.{script_of, tile_report};
 ghost use Rattle.av1_unit.specs.Coded.{numbered, report_of, tiles_of, told_of};
 ghost use Rattle.av1_unit.specs.Findings.{first_refusal};
 ghost use Rattle.av1_unit.specs.HeaderReading.{HeadersAreRead};
-ghost use Rattle.av1_unit.specs.Headline.{IsWritten};
+ghost use Rattle.av1_unit.specs.Headline.{IsSent, IsSentInPart, IsWritten};
 ghost use Rattle.av1_unit.specs.Tiles.{bytes_of};
 ghost use Rattle.av1_unit.specs.Plain.{plain};
 
@@ -51,16 +51,14 @@ pub fn write_unit<S: Sink>(
     unit: &Unit,
     via: Via,
 ) -> Result<Report, UnitError>
-    ensures sent { IfOk result (λ report. (bytes : _) × IsWritten (plain unit.now) bytes report
-        × (S.sent out.new ≡ appended (S.sent out.old) bytes) × (S.faults out.new ≡ S.faults out.old)) }
+    ensures sent { IfOk result (λ report. IsSent S.Sink out.old out.new (plain unit.now) report) }
     ensures tiles { IfOk result (λ report. report.tiles ≡ told_of (given_of unit.now) (numbered (plain unit.now))) }
     ensures headers { OnOk result (HeadersAreRead (given_of unit.now) (tiles_of (given_of unit.now) (numbered (plain unit.now)))) }
     ensures refused { IfErr result (λ e. (e ≡ MemoryError) ⊎ (e ≡ SinkFault) ⊎ (first_refusal (plain unit.now) ≡ Some e)) }
     ensures unsent { IfErr result (λ e. (e ≡ SinkFault)
         ⊎ ((S.sent out.new ≡ S.sent out.old) × (S.faults out.new ≡ S.faults out.old))) }
     ensures fault { IsErrOf result UnitError.SinkFault → Rose (S.faults out.old) (S.faults out.new) }
-    ensures front { IsErrOf result UnitError.SinkFault → (bytes : _) × (report : _) × (k : ℕ) × IsWritten (plain unit.now) bytes report
-        × (k < length bytes) × (S.sent out.new ≡ appended (S.sent out.old) (take k bytes)) }
+    ensures front { IsErrOf result UnitError.SinkFault → IsSentInPart S.Sink out.old out.new (plain unit.now) }
 {
     let (bytes, report) = unit_bytes(alloc, unit, via)?;
     match send_all(out, &bytes) {
