@@ -4,7 +4,7 @@ use Rattle.std.specs.Prelude.{unwrap_or}
 use Rattle.std.proofs.lemmas.Bool.Decides.{nat_tests}
 use Rattle.std.proofs.lemmas.List.Folds.{list_all_at}
 use Rattle.av1_blocks.proofs.GoingBack.{halved_once}
-use Rattle.av1_blocks.specs.Coefficients.{entries_above, entries_left, greatest, has_sides, is_any, is_larger, txb_context}
+use Rattle.av1_blocks.specs.Coefficients.{block_contexts, entries_above, entries_left, greatest, has_sides, is_any, is_larger, txb_context}
 use Rattle.av1_blocks.specs.Edges.{halvings}
 use Rattle.av1_cdf.specs.Distribution.{HasSymbols}
 use Rattle.av1_coef.proofs.Tests.{either, false_true}
@@ -29,7 +29,7 @@ use Rattle.av1_geometry.specs.declared.tx_type.TxType.TheVariants.{DCT_DCT, ADST
 use Rattle.av1_model.specs.Element.{Reads}
 use Rattle.av1_model.proofs.ElementLaws.{renamed_reads}
 use Rattle.av1_syntax.proofs.CoeffWhole.{element_reads}
-use Rattle.av1_syntax.specs.Coefficients.{block_contexts, is_inter, type_without, AreCoeffs, AreLevels, IsTyped}
+use Rattle.av1_syntax.specs.Coefficients.{is_inter, type_without, AreCoeffs, AreLevels, IsTyped}
 use Rattle.av1_step.specs.CoeffSteps.{are_levels, chroma_coeffs_kind, coeffs_answering, coeffs_asking, coeffs_of, has_coeffs, has_type, is_transform, is_whole_steps, luma_coeffs_kind, size_in, transform_of, tx_in, xdec_in, ydec_in}
 use Rattle.av1_step.specs.IntraSteps.{mode_at}
 use Rattle.av1_step.specs.Kept.{IsKept, IsTransform}

@@ -3,6 +3,7 @@ use Rattle.std.specs.Prelude.{ℕ, ◌+◌, ◌-◌, ◌*◌, ◌/◌, ◌%◌, 
 use Rattle.std.specs.Prelude.{Option, Some, length, nat_le, nat_lt, if◌then◌else◌, unwrap_or, slice_index_or, ℤ, pos, unsigned_abs}
 use Rattle.std.specs.List.{list_all}
 use Rattle.std.specs.Option.{option_map_or}
+use Rattle.av1_blocks.specs.Coefficients.{block_contexts}
 use Rattle.av1_blocks.specs.Edges.{halvings}
 use Rattle.av1_cdf.specs.Distribution.{Distribution}
 use Rattle.av1_coef.specs.Contexts.{coded_area}
@@ -21,7 +22,7 @@ use Rattle.av1_geometry.specs.declared.tx_size.TxSize.{TxSize}
 use Rattle.av1_geometry.specs.declared.tx_type.TxType.{TxType}
 use Rattle.av1_geometry.specs.declared.tx_type.TxType.TheVariants.{DCT_DCT}
 use Rattle.av1_model.specs.Element.{Element, renamed, where_some}
-use Rattle.av1_syntax.specs.Coefficients.{block_contexts, coeffs_element, entry_of, is_inter}
+use Rattle.av1_syntax.specs.Coefficients.{coeffs_element, entry_of, is_inter}
 use Rattle.av1_step.specs.declared.coeff_steps.TransformBlock.{TransformBlock}
 use Rattle.av1_step.specs.declared.step.TileStep.TheVariants.{Coeffs}
 use Rattle.av1_step.specs.Effect.{Effect, Filled}

@@ -26,8 +26,8 @@ use Rattle.av1_model.proofs.ElementLaws.{known_reads, reads_as, symbol_reads, ch
 use Rattle.av1_syntax.specs.Flags.{flag, flag_of, flag_number, skip_element, filter_intra_element}
 use Rattle.av1_syntax.specs.IntraModes.{mode, mode_below, class_of, above_class, left_class, intra_mode_kf_element, intra_mode_element, cfl_allowed, uv_modes, uv_mode_element, angle_of, angle_number, angle_delta_element}
 use Rattle.av1_syntax.specs.Palette.{off_of, off_where, palette_size, palette_element}
-use Rattle.av1_syntax.specs.Partition.{probability, partition_slot, partition_below, partition_among, partition_element, vert_alike, horz_alike, split_or, split_number, has_cols, has_rows, IsParted, is_allowed}
-use Rattle.av1_syntax.proofs.Gathering.{larger, context_bound, large_has, context_large, slot_has, partitions, allowed_few, few_allowed, partition_told, partition_past, partition_named, vert_told, horz_told, none_told, split_allowed_vert, split_allowed_horz, split_past, split_named, two_numbers, vert_few, horz_few}
+use Rattle.av1_syntax.specs.Partition.{partitions, probability, partition_slot, partition_below, partition_among, partition_element, vert_alike, horz_alike, split_or, split_number, has_cols, has_rows, IsParted, is_allowed}
+use Rattle.av1_syntax.proofs.Gathering.{larger, context_bound, large_has, context_large, slot_has, allowed_few, few_allowed, partition_told, partition_past, partition_named, vert_told, horz_told, none_told, split_allowed_vert, split_allowed_horz, split_past, split_named, two_numbers, vert_few, horz_few}
 use Rattle.av1_syntax.proofs.Slots.{skip_has, filter_intra_has, kf_y_has, y_mode_has, uv_mode_has, uv_mode_cfl_has, angle_delta_has, palette_y_has, palette_uv_has}
 use Rattle.av1_syntax.proofs.Values.{flag_told, flag_past, flag_named, mode_below_told, mode_below_past, mode_below_named, mode_below_small, angle_told, angle_past, angle_named, angle_small, sides_of_eight}
 

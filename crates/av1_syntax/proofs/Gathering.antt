@@ -19,7 +19,7 @@ use Rattle.av1_cdf.proofs.Cells.{is_lt, lt_is, lt_not}
 use Rattle.av1_model.specs.Cdf.{IsCdf}
 use Rattle.av1_model.specs.Comes.{Standing, Wrote}
 use Rattle.av1_syntax.specs.Calls.{Context, coded_in, learnt_in}
-use Rattle.av1_syntax.specs.Partition.{probability, vert_alike, horz_alike, partition_slot, partition_below, has_cols, has_rows, IsParted, is_allowed, split_or, split_number, partition_among}
+use Rattle.av1_syntax.specs.Partition.{partitions, probability, vert_alike, horz_alike, partition_slot, partition_below, has_cols, has_rows, IsParted, is_allowed, split_or, split_number, partition_among}
 use Rattle.av1_geometry.proofs.Numbers.{partition_numbered}
 use Rattle.av1_syntax.proofs.Values.{past, told_below}
 use Rattle.av1_syntax.proofs.Slots.{partition_w8_has, partition_has}
@@ -86,10 +86,6 @@ large_has ctx h l =
 pub context_bound : (bc : BlockContext) (bo : BlockOffset) (size : BlockSize) → width_log2 size ≤ 6 → partition_context bc bo size < 16
 context_bound bc bo size h = omega arith
 
--- the symbols of a block's partitions: four at 8x8, else ten
-abbrev pub partitions : BlockSize → ℕ
-partitions size = if nat_eq (width_log2 size) 3 then 4 else 10
-
 pub slot_has : (bc : BlockContext) (bo : BlockOffset) (size : BlockSize) → 3 ≤ width_log2 size → width_log2 size ≤ 6 → HasSymbols (Adaptive (partition_slot (partition_context bc bo size))) (partitions size)
 slot_has bc bo size least most = elim (cases_lt (width_log2 size) 4) [
   | inl l ↦
@@ -109,6 +105,10 @@ allowed_by false p h = few p
 by_allowed : (b : Bool) (p : PartitionType) → partition_number p < (if b then 4 else 10) → IsTrue (if b then nat_lt (partition_number p) 4 else true)
 by_allowed true p h = lt_is (partition_number p) 4 h
 by_allowed false p h = refl
+
+-- at the edge of the tile there are ten
+pub ten_large : (g : Grid) (bo : BlockOffset) (size : BlockSize) → IsParted g bo size → (has_cols g bo size ≡ false) ⊎ (has_rows g bo size ≡ false) → partitions size ≡ 10
+ten_large g bo size h e = let large = larger g bo size h e in grind (arith, nat_tests, large)
 
 -- where both halves begin inside, a partition is allowed that has a symbol
 pub allowed_few : (size : BlockSize) (p : PartitionType) → IsTrue (is_allowed true true size p) → partition_number p < partitions size

@@ -196,11 +196,12 @@ pub record HasType (plane : ℕ) (size : TxSize) (mode : PredictionMode) (reduce
   pub none : plane ≡ 0 → n ≡ 0 → t ≡ DCT_DCT
   pub some : plane ≡ 0 → 1 ≤ n → IsTrue (uses (tx_set size (is_inter mode) reduced) t)
 
--- they went the path of these coefficients, or its beginning, whichever scans the other classes have
-abbrev pub CoeffsCoded : {W U E : Type 0} → Ghosts W → Result U E → ((TxClass → List ℕ) → Element Distribution (TxType × List ℤ)) →
-    TxType → List ℕ → List ℤ → W → W → ContextWriter → ContextWriter → Type 0
-CoeffsCoded known r element t scan levels w u old new =
-    (scans : TxClass → List ℕ) → scans (class_of t) ≡ scan → Coded known r (element scans) (t, levels) w u old new
+-- they went the path of the coefficients of a transform of a plane, or its beginning, whichever scans the other classes have
+abbrev pub TransformCoded : {W U E : Type 0} → Ghosts W → Result U E → ℕ → TxSize → PredictionMode → Bool → TxType → TXB_CTX →
+    List ℕ → List ℤ → W → W → ContextWriter → ContextWriter → Type 0
+TransformCoded known r plane size mode reduced t contexts scan levels w u old new =
+    (scans : TxClass → List ℕ) → scans (class_of t) ≡ scan →
+    Coded known r (coeffs_element old.eob_by_coded plane size mode reduced t contexts scans) (t, levels) w u old new
 
 -- What the calls of a transform block code, by what they know of it: the end, the size at a position, up to 15, by padded levels, the
 -- one at place c of a scan, those at its first n places, the levels of known sizes, and all three in turn.

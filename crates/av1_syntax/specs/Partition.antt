@@ -31,6 +31,10 @@ horz_alike = 1 ∷ 3 ∷ 4 ∷ 5 ∷ 6 ∷ 8 ∷ []
 abbrev pub gathered : List ℕ → List ℕ → List ℕ
 gathered cdf symbols = sum (map (probability cdf) symbols) ∷ 0 ∷ []
 
+-- how many ways there are to part a block: four at 8x8, else ten
+abbrev pub partitions : BlockSize → ℕ
+partitions size = if nat_eq (width_log2 size) 3 then 4 else 10
+
 -- the distribution of partitions, by their context: 8x8 has four partitions, larger blocks have ten
 abbrev pub partition_slot : ℕ → Slot
 partition_slot context = if nat_lt context 4 then slot (codes "partition_w8_cdf") (context ∷ []) else slot (codes "partition_cdf") ((context - 4) ∷ [])

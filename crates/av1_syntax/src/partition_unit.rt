@@ -1,12 +1,13 @@
 // Partitions, skip flags, factors of chroma from luma, and segments.
 ghost use Rattle.std.specs.Prelude.{◌≡◌, ℕ, ◌+◌, ◌^◌, ◌-◌, ◌<◌, ◌≤◌, IsTrue, length, false, pos, unsigned_abs, ◌≤ℤ◌, ◌<ℤ◌};
+ghost use Rattle.av1_blocks.specs.Edges.{partition_context};
 ghost use Rattle.av1_blocks.specs.Grid.{IsInside, block_at};
 ghost use Rattle.av1_cdf.specs.Context.{AreCdfs};
 ghost use Rattle.av1_cdf.specs.Slots.{slot_of};
 ghost use Rattle.av1_geometry.specs.Cfl.{sign_at, scale_at, signed};
 ghost use Rattle.av1_geometry.specs.PartitionType.{partition_number};
 ghost use Rattle.av1_model.specs.Cdf.{IsCdf};
-ghost use Rattle.av1_syntax.specs.Partition.{probability, gathered, vert_alike, horz_alike, partition_slot, has_cols, has_rows, IsParted, is_allowed};
+ghost use Rattle.av1_syntax.specs.Partition.{probability, gathered, vert_alike, horz_alike, partition_slot, partitions, has_cols, has_rows, split_number, IsParted, is_allowed};
 ghost use Rattle.av1_syntax.specs.Segments.{agreement, predicted_segment, segment_context, entered_segment, interleaved};
 
 use crate::context_writer::ContextWriter;
@@ -77,25 +78,44 @@ impl ContextWriter {
         ensures moves { Moved W.Known 13 w.old w.new self.old self.new }
         ensures rest { self.new.bc ≡ self.old.bc }
     {
-        let half = bsize.width_mi() / 2;
-        let has_cols = bo.0.x + half < self.bc.blocks.cols();
-        let has_rows = bo.0.y + half < self.bc.blocks.rows();
-        let cdf = partition_slot(self.bc.partition_plane_context(bo, bsize));
-        let split = u32::from(p.number() == PartitionType::PARTITION_SPLIT.number());
-        match (has_cols, has_rows) {
+        let cdf = self.partition_cdf(bo, bsize);
+        match (self.has_cols(bo, bsize), self.has_rows(bo, bsize)) {
             (true, true) => self.symbol(w, p.number() as u32, cdf),
-            (true, false) => self.fixed_symbol(
-                w,
-                split,
-                &gather_vert_alike(self.fc.values_of(cdf)),
-            ),
-            (false, true) => self.fixed_symbol(
-                w,
-                split,
-                &gather_horz_alike(self.fc.values_of(cdf)),
-            ),
+            (true, false) => {
+                let gathered = gather_vert_alike(self.fc.values_of(cdf));
+                self.fixed_symbol(w, split_number(p), &gathered)
+            }
+            (false, true) => {
+                let gathered = gather_horz_alike(self.fc.values_of(cdf));
+                self.fixed_symbol(w, split_number(p), &gathered)
+            }
             (false, false) => Ok(()),
         }
+    }
+
+    // The distribution of partitions by the blocks above and to the left. A block that is parted at the tile's end has all ten.
+    fn partition_cdf(&self, bo: TileBlockOffset, bsize: BlockSize) -> CDFOffset
+        requires place { IsParted self.now.bc.blocks bo.0 bsize }
+        ensures is { slot_of result ≡ partition_slot (partition_context self.now.bc bo.0 bsize) }
+        ensures len { result.len ≡ partitions bsize }
+    {
+        partition_slot(self.bc.partition_plane_context(bo, bsize))
+    }
+
+    // Whether the second half of a block begins inside the tile, in columns.
+    fn has_cols(&self, bo: TileBlockOffset, bsize: BlockSize) -> bool
+        requires place { IsParted self.now.bc.blocks bo.0 bsize }
+        ensures { result ≡ has_cols self.now.bc.blocks bo.0 bsize }
+    {
+        bo.0.x + bsize.width_mi() / 2 < self.bc.blocks.cols()
+    }
+
+    // And in rows.
+    fn has_rows(&self, bo: TileBlockOffset, bsize: BlockSize) -> bool
+        requires place { IsParted self.now.bc.blocks bo.0 bsize }
+        ensures { result ≡ has_rows self.now.bc.blocks bo.0 bsize }
+    {
+        bo.0.y + bsize.width_mi() / 2 < self.bc.blocks.rows()
     }
 
     /// Codes the factors of chroma from luma: both signs in one symbol, and the size of each factor that is not zero.
@@ -256,6 +276,13 @@ fn partition_slot(ctx: usize) -> CDFOffset
     } else {
         CDFContext::partition_cdf(ctx - 4)
     }
+}
+
+// The symbol of a flag that tells whether a block is parted in both directions.
+fn split_number(p: PartitionType) -> u32
+    ensures { result ≡ split_number p }
+{
+    u32::from(p.number() == PartitionType::PARTITION_SPLIT.number())
 }
 
 // Whether a block is parted in both directions, where it is parted into two rows in any case.

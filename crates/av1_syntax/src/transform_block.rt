@@ -12,7 +12,7 @@ ghost use Rattle.av1_syntax.specs.Coefficients.{is_inter, plane_type, value_at};
 
 use crate::coefficients::{CoeffBlock, level_at};
 use crate::context_writer::ContextWriter;
-use av1_blocks::BlockContext;
+use av1_blocks::{BlockContext, TXB_CTX};
 use av1_cdf::CDFContext;
 use av1_coef::{Coefficient, Scan, get_txsize_entropy_ctx};
 use av1_ec::Writer;
@@ -55,7 +55,7 @@ fn first_level<T: Coefficient>(coeffs: &[T], scan: &[u16]) -> i32
 
 impl ContextWriter {
     ghost use Rattle.av1_syntax.specs.Calls.{Coded, Moved};
-    ghost use Rattle.av1_syntax.specs.Coefficients.{levels_at, types_element, coeffs_element, entry_at, AreCoded, HasType, CoeffsCoded};
+    ghost use Rattle.av1_syntax.specs.Coefficients.{levels_at, types_element, entry_at, AreCoded, HasType, TransformCoded};
 
     // Codes the type of a transform block that has levels, in luma.
     fn write_type_of_plane<W: Writer>(
@@ -82,6 +82,59 @@ impl ContextWriter {
             return self.tx_type(w, tx_size, tx_type, pred_mode, inter, use_reduced_tx_set);
         }
         Ok(())
+    }
+
+    // Codes the coefficients of a transform block by its contexts. The edges stay, and the answer is its entry in them.
+    fn code_coeffs<T: Coefficient, W: Writer>(
+        &mut self,
+        w: &mut W,
+        plane: usize,
+        coeffs: &[T],
+        eob: u16,
+        pred_mode: PredictionMode,
+        tx_size: TxSize,
+        tx_type: TxType,
+        scan: &Scan,
+        use_reduced_tx_set: bool,
+        txb_ctx: TXB_CTX,
+    ) -> Result<u8, OutOfMemory>
+        requires mode { plane ≡ 0 → prediction_mode_number pred_mode ≢ 13 }
+        requires typed { HasType plane tx_size pred_mode use_reduced_tx_set eob tx_type }
+        requires coded { AreCoded tx_size (class_of tx_type) scan.now eob (map T.value coeffs.now) }
+        requires few_skips { txb_ctx.txb_skip_ctx < 13 }
+        requires few_signs { txb_ctx.dc_sign_ctx < 3 }
+        requires cdfs { AreCdfs self.old.fc }
+        requires early { (W.position w.old).shift ≤ 2 ^ 28 }
+        ensures entry { IfOk result (λ v. v ≡ entry_at (map T.value coeffs.now) scan.now eob) }
+        ensures wrote { let levels = levels_at (map T.value coeffs.now) scan.now eob in
+            TransformCoded W.Known result plane tx_size pred_mode use_reduced_tx_set tx_type txb_ctx scan.now levels w.old w.new self.old self.new }
+        ensures moves { Moved W.Known (2 ^ 20) w.old w.new self.old self.new }
+        ensures rest { self.new.bc ≡ self.old.bc }
+    {
+        let block = CoeffBlock {
+            tx_size,
+            tx_class: tx_type.class(),
+            txs_ctx: get_txsize_entropy_ctx(tx_size),
+            plane_type: plane_type(plane),
+        };
+        let all_zero = CDFContext::txb_skip_cdf(block.txs_ctx, txb_ctx.txb_skip_ctx);
+        self.flag(w, eob == 0, all_zero)?;
+        if eob == 0 {
+            return Ok(0);
+        }
+        self.write_type_of_plane(
+            w,
+            plane,
+            tx_size,
+            tx_type,
+            pred_mode,
+            use_reduced_tx_set,
+            eob,
+        )?;
+        let positions = scan.positions.as_slice();
+        let dc_sign_ctx = txb_ctx.dc_sign_ctx;
+        let total = self.write_block_coeffs(w, block, coeffs, positions, eob, dc_sign_ctx)?;
+        Ok(entry_of(total, first_level(coeffs, positions)))
     }
 
     /// Codes the coefficients of a transform block (rav1e, `context/block_unit.rs`; AV1 specification, "Coefficients syntax"),
@@ -124,9 +177,8 @@ impl ContextWriter {
         requires early { (W.position w.old).shift ≤ 2 ^ 28 }
         ensures answer { IfOk result (λ some. some ≡ nat_lt 0 eob) }
         ensures wrote { let contexts = block_contexts self.old.bc plane bo.0 plane_bsize tx_size xdec ydec frame_clipped_txw frame_clipped_txh in
-            let element = coeffs_element self.old.eob_by_coded plane tx_size pred_mode use_reduced_tx_set tx_type contexts in
             let levels = levels_at (map T.value coeffs_in.now) scan.now eob in
-            CoeffsCoded W.Known result element tx_type scan.now levels w.old w.new self.old self.new }
+            TransformCoded W.Known result plane tx_size pred_mode use_reduced_tx_set tx_type contexts scan.now levels w.old w.new self.old self.new }
         ensures edges { OnOk result (self.new.bc ≡
             with_coefficients plane bo.0 tx_size xdec ydec (entry_at (map T.value coeffs_in.now) scan.now eob) self.old.bc) }
         ensures refused { OnErr result (self.new.bc ≡ self.old.bc) }
@@ -142,33 +194,20 @@ impl ContextWriter {
             frame_clipped_txw,
             frame_clipped_txh,
         );
-        let block = CoeffBlock {
-            tx_size,
-            tx_class: tx_type.class(),
-            txs_ctx: get_txsize_entropy_ctx(tx_size),
-            plane_type: plane_type(plane),
-        };
-        let all_zero = CDFContext::txb_skip_cdf(block.txs_ctx, txb_ctx.txb_skip_ctx);
-        self.flag(w, eob == 0, all_zero)?;
-        if eob == 0 {
-            self.bc.set_coeff_context(plane, bo, tx_size, xdec, ydec, 0);
-            return Ok(false);
-        }
-        self.write_type_of_plane(
+        let entry = self.code_coeffs(
             w,
             plane,
+            coeffs_in,
+            eob,
+            pred_mode,
             tx_size,
             tx_type,
-            pred_mode,
+            scan,
             use_reduced_tx_set,
-            eob,
+            txb_ctx,
         )?;
-        let positions = scan.positions.as_slice();
-        let dc_sign_ctx = txb_ctx.dc_sign_ctx;
-        let total = self.write_block_coeffs(w, block, coeffs_in, positions, eob, dc_sign_ctx)?;
-        let entry = entry_of(total, first_level(coeffs_in, positions));
         self.bc
             .set_coeff_context(plane, bo, tx_size, xdec, ydec, entry);
-        Ok(true)
+        Ok(eob > 0)
     }
 }

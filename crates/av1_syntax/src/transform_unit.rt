@@ -253,8 +253,7 @@ impl ContextWriter {
         ensures entered { OnOk result (self.new.bc ≡ entered_parts bo.0 part (parts_of bsize part) self.old.bc) }
         ensures refused { OnErr result (AreSome bo.0 part (parts_of bsize part) self.old.bc self.new.bc) }
     {
-        let columns = bsize.width_mi() / part.width_mi();
-        let rows = bsize.height_mi() / part.height_mi();
+        let (columns, rows) = part_counts(bsize, part);
         for k in 0..columns * rows {
             let (tbx, tby) = (k % columns, k / columns);
             let place = part_place(bo, part, tbx, tby);
@@ -426,6 +425,22 @@ fn depth_slot(largest: TxSize, ctx: usize) -> CDFOffset
     } else {
         CDFContext::tx_size_cdf(side - 4, ctx)
     }
+}
+
+// How many parts of a split transform lie side by side, and how many one below the other.
+fn part_counts(bsize: BlockSize, part: TxSize) -> (usize, usize)
+    requires width { width_log2 bsize ≤ 6 }
+    requires height { height_log2 bsize ≤ 6 }
+    requires size { part ≡ halved 1 (max_tx_size bsize) }
+    ensures columns { result.0 ≡ 2 ^ (width_log2 bsize - tx_width_log2 part) }
+    ensures rows { result.1 ≡ 2 ^ (height_log2 bsize - tx_height_log2 part) }
+    ensures all { length (parts_of bsize part) ≡ result.0 * result.1 }
+    ensures few { result.0 * result.1 ≤ 4 }
+{
+    (
+        bsize.width_mi() / part.width_mi(),
+        bsize.height_mi() / part.height_mi(),
+    )
 }
 
 // Where a part of a split transform is.

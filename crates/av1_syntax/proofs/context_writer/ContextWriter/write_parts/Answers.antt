@@ -21,11 +21,10 @@ write_part-requires-clause-placed g c inside =
     let part = c.args.part in
     let bo = c.args.bo.0 in
     let ps = parts_of size part in
-    let m = c.width_mi.result / c.width_mi-2.result in
-    let n = c.height_mi.result / c.height_mi-2.result in
-    let em = columns_are size part c.requires.size c.requires.width c.requires.height _ _ c.width_mi.ensures.value c.width_mi-2.ensures.value in
-    let en = rows_are size part c.requires.size c.requires.width c.requires.height _ _ c.height_mi.ensures.value c.height_mi-2.ensures.value in
-    subst (λ (b : BlockOffset). IsPlaced b part) (sym c.part_place-place.ensures) (part_placed size part c.requires.size c.requires.width c.requires.height m n em en c.loop-k.k c.loop-k-test.true bo c.requires.placed)
+    let counts = c.part_counts-columns in
+    let m = counts.result.0 in
+    let n = counts.result.1 in
+    subst (λ (b : BlockOffset). IsPlaced b part) (sym c.part_place-place.ensures) (part_placed size part c.requires.size c.requires.width c.requires.height m n counts.ensures.columns counts.ensures.rows c.loop-k.k c.loop-k-test.true bo c.requires.placed)
 
 pub write_part-requires-clause-shift : goal.write_part-requires-clause-shift
 write_part-requires-clause-shift g c =
@@ -33,14 +32,13 @@ write_part-requires-clause-shift g c =
     let part = c.args.part in
     let bo = c.args.bo.0 in
     let ps = parts_of size part in
-    let m = c.width_mi.result / c.width_mi-2.result in
-    let n = c.height_mi.result / c.height_mi-2.result in
-    let em = columns_are size part c.requires.size c.requires.width c.requires.height _ _ c.width_mi.ensures.value c.width_mi-2.ensures.value in
-    let en = rows_are size part c.requires.size c.requires.width c.requires.height _ _ c.height_mi.ensures.value c.height_mi-2.ensures.value in
-    let long = parts_long size part c.requires.size c.requires.width c.requires.height m n em en in
-    let few = parts_few_as size part c.requires.size c.requires.width c.requires.height in
+    let counts = c.part_counts-columns in
+    let m = counts.result.0 in
+    let n = counts.result.1 in
+    let long = counts.ensures.all in
+    let few = counts.ensures.few in
     let near = c.loop-k.invariant.moves.near in
-    omega (arith, long, few, near, c.loop-k-test.true, c.requires.shift)
+    omega (arith, few, near, c.loop-k-test.true, c.requires.shift)
 
 pub loop-k-preserved : goal.loop-k-preserved
 loop-k-preserved g c =
@@ -48,13 +46,12 @@ loop-k-preserved g c =
     let part = c.args.part in
     let bo = c.args.bo.0 in
     let ps = parts_of size part in
-    let m = c.width_mi.result / c.width_mi-2.result in
-    let n = c.height_mi.result / c.height_mi-2.result in
-    let em = columns_are size part c.requires.size c.requires.width c.requires.height _ _ c.width_mi.ensures.value c.width_mi-2.ensures.value in
-    let en = rows_are size part c.requires.size c.requires.width c.requires.height _ _ c.height_mi.ensures.value c.height_mi-2.ensures.value in
+    let counts = c.part_counts-columns in
+    let m = counts.result.0 in
+    let n = counts.result.1 in
     let k = c.loop-k.k in
-    let at = part_at size part c.requires.size c.requires.width c.requires.height m n em en k c.loop-k-test.true in
-    let long = parts_long size part c.requires.size c.requires.width c.requires.height m n em en in
+    let at = part_at size part c.requires.size c.requires.width c.requires.height m n counts.ensures.columns counts.ensures.rows k c.loop-k-test.true in
+    let long = counts.ensures.all in
     let before : k < length ps = omega (arith, long, c.loop-k-test.true) in
     let place = c.part_place-place.ensures in
     let old = stands g.W.Known c.args.w.now c.args.self.now in
@@ -76,13 +73,12 @@ returns-in_err-write_part-clause-wrote g c =
     let part = c.args.part in
     let bo = c.args.bo.0 in
     let ps = parts_of size part in
-    let m = c.width_mi.result / c.width_mi-2.result in
-    let n = c.height_mi.result / c.height_mi-2.result in
-    let em = columns_are size part c.requires.size c.requires.width c.requires.height _ _ c.width_mi.ensures.value c.width_mi-2.ensures.value in
-    let en = rows_are size part c.requires.size c.requires.width c.requires.height _ _ c.height_mi.ensures.value c.height_mi-2.ensures.value in
+    let counts = c.part_counts-columns in
+    let m = counts.result.0 in
+    let n = counts.result.1 in
     let k = c.loop-k.k in
-    let at = part_at size part c.requires.size c.requires.width c.requires.height m n em en k c.loop-k-test.true in
-    let long = parts_long size part c.requires.size c.requires.width c.requires.height m n em en in
+    let at = part_at size part c.requires.size c.requires.width c.requires.height m n counts.ensures.columns counts.ensures.rows k c.loop-k-test.true in
+    let long = counts.ensures.all in
     let before : k < length ps = omega (arith, long, c.loop-k-test.true) in
     let place = c.part_place-place.ensures in
     let old = stands g.W.Known c.args.w.now c.args.self.now in
@@ -99,13 +95,12 @@ returns-in_err-write_part-clause-moves g c =
     let part = c.args.part in
     let bo = c.args.bo.0 in
     let ps = parts_of size part in
-    let m = c.width_mi.result / c.width_mi-2.result in
-    let n = c.height_mi.result / c.height_mi-2.result in
-    let em = columns_are size part c.requires.size c.requires.width c.requires.height _ _ c.width_mi.ensures.value c.width_mi-2.ensures.value in
-    let en = rows_are size part c.requires.size c.requires.width c.requires.height _ _ c.height_mi.ensures.value c.height_mi-2.ensures.value in
-    let long = parts_long size part c.requires.size c.requires.width c.requires.height m n em en in
-    let few = parts_few_as size part c.requires.size c.requires.width c.requires.height in
-    moves_then g.W.Known (13 * c.loop-k.k) 13 52 _ _ _ _ _ _ _ _ _ (omega (arith, long, few, c.loop-k-test.true)) c.loop-k.invariant.moves c.in_err-write_part.ensures.moves
+    let counts = c.part_counts-columns in
+    let m = counts.result.0 in
+    let n = counts.result.1 in
+    let long = counts.ensures.all in
+    let few = counts.ensures.few in
+    moves_then g.W.Known (13 * c.loop-k.k) 13 52 _ _ _ _ _ _ _ _ _ (omega (arith, few, c.loop-k-test.true)) c.loop-k.invariant.moves c.in_err-write_part.ensures.moves
 
 pub returns-in_err-write_part-clause-refused : goal.returns-in_err-write_part-clause-refused
 returns-in_err-write_part-clause-refused g c =
@@ -113,11 +108,10 @@ returns-in_err-write_part-clause-refused g c =
     let part = c.args.part in
     let bo = c.args.bo.0 in
     let ps = parts_of size part in
-    let m = c.width_mi.result / c.width_mi-2.result in
-    let n = c.height_mi.result / c.height_mi-2.result in
-    let em = columns_are size part c.requires.size c.requires.width c.requires.height _ _ c.width_mi.ensures.value c.width_mi-2.ensures.value in
-    let en = rows_are size part c.requires.size c.requires.width c.requires.height _ _ c.height_mi.ensures.value c.height_mi-2.ensures.value in
-    let long = parts_long size part c.requires.size c.requires.width c.requires.height m n em en in
+    let counts = c.part_counts-columns in
+    let m = counts.result.0 in
+    let n = counts.result.1 in
+    let long = counts.ensures.all in
     on_err c.from_residual.result _ c.from_residual.ensures.0 (c.loop-k.k, omega (arith, long, c.loop-k-test.true), c.in_err-write_part.ensures.refused ∙ c.loop-k.invariant.entered)
 
 pub returns-clause-wrote : goal.returns-clause-wrote
@@ -126,13 +120,12 @@ returns-clause-wrote g c =
     let part = c.args.part in
     let bo = c.args.bo.0 in
     let ps = parts_of size part in
-    let m = c.width_mi.result / c.width_mi-2.result in
-    let n = c.height_mi.result / c.height_mi-2.result in
-    let em = columns_are size part c.requires.size c.requires.width c.requires.height _ _ c.width_mi.ensures.value c.width_mi-2.ensures.value in
-    let en = rows_are size part c.requires.size c.requires.width c.requires.height _ _ c.height_mi.ensures.value c.height_mi-2.ensures.value in
+    let counts = c.part_counts-columns in
+    let m = counts.result.0 in
+    let n = counts.result.1 in
     let old = stands g.W.Known c.args.w.now c.args.self.now in
     let new = stands g.W.Known c.loop-k.w c.loop-k.self in
-    let long = parts_long size part c.requires.size c.requires.width c.requires.height m n em en in
+    let long = counts.ensures.all in
     parts_end bo size part ps c.loop-k.k (parts_element bo size part ps c.args.self.now.bc).tree c.loop-k.self.bc old new (omega (arith, long, c.loop-k-test.false, c.loop-k.auto.k-end)) c.loop-k.invariant.came
 
 pub returns-clause-moves : goal.returns-clause-moves
@@ -141,13 +134,12 @@ returns-clause-moves g c =
     let part = c.args.part in
     let bo = c.args.bo.0 in
     let ps = parts_of size part in
-    let m = c.width_mi.result / c.width_mi-2.result in
-    let n = c.height_mi.result / c.height_mi-2.result in
-    let em = columns_are size part c.requires.size c.requires.width c.requires.height _ _ c.width_mi.ensures.value c.width_mi-2.ensures.value in
-    let en = rows_are size part c.requires.size c.requires.width c.requires.height _ _ c.height_mi.ensures.value c.height_mi-2.ensures.value in
-    let long = parts_long size part c.requires.size c.requires.width c.requires.height m n em en in
-    let few = parts_few_as size part c.requires.size c.requires.width c.requires.height in
-    moves_as g.W.Known (13 * c.loop-k.k) 52 _ _ _ _ _ _ (omega (arith, long, few, c.loop-k.auto.k-end)) c.loop-k.invariant.moves
+    let counts = c.part_counts-columns in
+    let m = counts.result.0 in
+    let n = counts.result.1 in
+    let long = counts.ensures.all in
+    let few = counts.ensures.few in
+    moves_as g.W.Known (13 * c.loop-k.k) 52 _ _ _ _ _ _ (omega (arith, few, c.loop-k.auto.k-end)) c.loop-k.invariant.moves
 
 pub returns-clause-entered : goal.returns-clause-entered
 returns-clause-entered g c =
@@ -155,9 +147,8 @@ returns-clause-entered g c =
     let part = c.args.part in
     let bo = c.args.bo.0 in
     let ps = parts_of size part in
-    let m = c.width_mi.result / c.width_mi-2.result in
-    let n = c.height_mi.result / c.height_mi-2.result in
-    let em = columns_are size part c.requires.size c.requires.width c.requires.height _ _ c.width_mi.ensures.value c.width_mi-2.ensures.value in
-    let en = rows_are size part c.requires.size c.requires.width c.requires.height _ _ c.height_mi.ensures.value c.height_mi-2.ensures.value in
-    let long = parts_long size part c.requires.size c.requires.width c.requires.height m n em en in
+    let counts = c.part_counts-columns in
+    let m = counts.result.0 in
+    let n = counts.result.1 in
+    let long = counts.ensures.all in
     entered_end bo part ps c.loop-k.k c.args.self.now.bc c.loop-k.self.bc (omega (arith, long, c.loop-k-test.false, c.loop-k.auto.k-end)) c.loop-k.invariant.entered
