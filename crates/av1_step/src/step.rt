@@ -8,7 +8,7 @@ use std::marker::Model;
 /// One step: a question, which the reader is given, and its answer, which the bytes hold.
 ///
 /// Places count 4x4 luma blocks from the corner of the tile.
-#[derive(Debug, Drop)]
+#[derive(Drop)]
 pub enum TileStep {
     /// A row of superblocks begins. Nothing is coded.
     RowStart,
@@ -166,7 +166,7 @@ pub enum TileStep {
 }
 
 /// The coefficients of a transform block in the order of its scan, up to the last that is not 0.
-#[derive(Debug, Drop)]
+#[derive(Drop)]
 pub struct Levels {
     pub levels: Vec<i32>,
 }

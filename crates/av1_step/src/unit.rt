@@ -56,7 +56,7 @@ impl Model for TileScript {
 }
 
 /// One item of a script.
-#[derive(Debug, Drop)]
+#[derive(Drop)]
 pub enum Item {
     /// Something is coded, or becomes the current block.
     Step(TileStep),
